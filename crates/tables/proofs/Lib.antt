@@ -1,0 +1,4 @@
+pub mod Firsts
+pub mod Passing
+pub mod Rows
+pub mod Refusing

@@ -1,0 +1,10 @@
+pub mod Format
+pub mod Bytes
+pub mod Rows
+pub mod Flaws
+pub mod Verdict
+pub mod Inside
+pub mod Sound
+pub mod Law
+pub mod Held
+pub mod Told

@@ -1,0 +1,4 @@
+pub mod Pairs
+pub mod Cuts
+pub mod OwnLine
+pub mod Accepted
