@@ -1,0 +1,4 @@
+pub mod Known
+pub mod Wins
+pub mod Once
+pub mod Sequences

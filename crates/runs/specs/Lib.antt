@@ -1,0 +1,9 @@
+pub mod Machine
+pub mod Runs
+pub mod Invariants
+pub mod Squares
+pub mod Over
+pub mod Guards
+pub mod Walks
+pub mod Counting
+pub mod Worked
