@@ -34,8 +34,11 @@ module _ {X : Type 0} (same : X → X → Bool) where
       rw (take-more xs i y inside ∙ ap (λ z. take i xs ++ z ∷ []) (sym here), known-push (take i xs) y x)
       (or-from (known same (take i xs) x) (same y x) before other)
 
-  pub first-known : (xs : List X) (x : X) (i : ℕ) → FirstAt same xs x (Some i) → known same xs x ≡ true
-  first-known xs x i (inside, here, before) =
+  pub known-at : (xs : List X) (x : X) (i : ℕ) → i < length xs → same (getD xs i x) x ≡ true → known same xs x ≡ true
+  known-at xs x i inside here =
       rw (← take-append-drop i xs, known-append (take i xs) (drop i xs) x, drop-more xs i x inside)
       (or-right (known same (take i xs) x) (known same (getD xs i x ∷ drop (i + 1) xs) x)
-      (or-left (same (getD xs i x) x) (known same (drop (i + 1) xs) x) (here x)))
+      (or-left (same (getD xs i x) x) (known same (drop (i + 1) xs) x) here))
+
+  pub first-known : (xs : List X) (x : X) (i : ℕ) → FirstAt same xs x (Some i) → known same xs x ≡ true
+  first-known xs x i (inside, here, before) = known-at xs x i inside (here x)

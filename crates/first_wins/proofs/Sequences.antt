@@ -6,7 +6,7 @@ use mathlib.Core.List.{List, [], _∷_, _++_}
 use mathlib.Core.Path.{_≡_, refl, sym, ap, _∙_}
 use native.Mathlib.Omega.{arith}
 use Prim.Native.Nat.{ℕ, zero, suc, _+_, _-_, _<_, _≤_}
-use Rattle.std.proofs.shelf.Lists.{append-nil, append-assoc, length-append, length-drop, length-take, drop-all, drop-more, length-push, set-append-right, take-all, take-more}
+use Rattle.std.proofs.shelf.Lists.{append-nil, append-assoc, length-append, length-drop, length-take, drop-all, drop-more, length-push, set-at, take-all, take-more}
 use Rattle.first_wins.specs.Keys.{known}
 use Rattle.first_wins.specs.Entering.{entered, enteredAll, laid}
 use Rattle.first_wins.proofs.Wins.{entered-all-append}
@@ -19,16 +19,22 @@ module _ {X : Type 0} where
 
   laid-push : (xs slice : List X) (y : X) → length xs < length slice → set (laid xs slice) (length xs) y ≡ laid (xs ++ y ∷ []) slice
   laid-push xs slice y room =
-      let here : length xs - length xs ≡ 0 = omega arith in
-      set-append-right xs (drop (length xs) slice) (length xs) (length xs) y refl (omega arith)
-      ∙ ap (λ n. xs ++ set (drop (length xs) slice) n y) here
-      ∙ ap (λ l. xs ++ set l 0 y) (drop-more slice (length xs) y room)
+      ap (λ l. set (xs ++ l) (length xs) y) (drop-more slice (length xs) y room)
+      ∙ set-at xs (getD slice (length xs) y) (drop (length xs + 1) slice) y (length xs) refl
       ∙ sym (ap (λ n. (xs ++ y ∷ []) ++ drop n slice) (length-push xs y) ∙ append-assoc xs (y ∷ []) (drop (length xs + 1) slice))
 
 module _ {X : Type 0} (same : X → X → Bool) (slice : List X) (len : ℕ) (ys : List X) where
   -- the list of the first i entries of the sequence
-  abbrev listed : ℕ → List X
+  abbrev pub listed : ℕ → List X
   listed i = enteredAll same (take len slice) (take i ys)
+
+  pub listed-more : (i : ℕ) (y : X) → i < length ys → y ≡ getD ys i y → listed (i + 1) ≡ entered same (listed i) y
+  listed-more i y inside here =
+      ap (enteredAll same (take len slice)) (take-more ys i y inside ∙ ap (λ z. take i ys ++ z ∷ []) (sym here))
+      ∙ entered-all-append same (take len slice) (take i ys) (y ∷ [])
+
+  pub listed-all : (i : ℕ) → length ys ≤ i → listed i ≡ enteredAll same (take len slice) ys
+  listed-all i over = ap (enteredAll same (take len slice)) (take-all i ys over)
 
   pub record Growing (i used : ℕ) (present : List X) : Type 0 where
     pub count : used ≡ length (listed i)
@@ -63,19 +69,14 @@ module _ {X : Type 0} (same : X → X → Bool) (slice : List X) (len : ℕ) (ys
         × (used ≡ length (enteredAll same (take len slice) ys))
         × (present ≡ laid (enteredAll same (take len slice) ys) slice)
     growing-ends over =
-        let all : listed i ≡ enteredAll same (take len slice) ys = ap (enteredAll same (take len slice)) (take-all i ys over) in
+        let all = listed-all i over in
         (sym (growing-list ∙ all), now .fits, now .count ∙ ap length all, now .holds ∙ ap (λ l. laid l slice) all)
 
     module _ (y : X) (inside : i < length ys) (here : y ≡ getD ys i y) where
-      listed-more : listed (i + 1) ≡ entered same (listed i) y
-      listed-more =
-          ap (enteredAll same (take len slice)) (take-more ys i y inside ∙ ap (λ z. take i ys ++ z ∷ []) (sym here))
-          ∙ entered-all-append same (take len slice) (take i ys) (y ∷ [])
-
       pub growing-known : (after : List X) → after ≡ present → take used after ≡ entered same (take used present) y → Growing (i + 1) used after
       growing-known after same-slice grown =
           let still : listed i ≡ listed (i + 1) =
-          sym growing-list ∙ sym (ap (take used) same-slice) ∙ grown ∙ ap (λ l. entered same l y) growing-list ∙ sym listed-more in
+          sym growing-list ∙ sym (ap (take used) same-slice) ∙ grown ∙ ap (λ l. entered same l y) growing-list ∙ sym (listed-more i y inside here) in
           record { count = now .count ∙ ap length still; fits = now .fits; holds = same-slice ∙ now .holds ∙ ap (λ l. laid l slice) still }
 
       pub growing-new : (k : ℕ) (after : List X) → (k ≡ used) × (used < length present) × (known same (take used present) y ≡ false)
@@ -84,7 +85,7 @@ module _ {X : Type 0} (same : X → X → Bool) (slice : List X) (len : ℕ) (ys
           let much = long in
           let count = now .count in
           let apart : known same (listed i) y ≡ false = ap (λ l. known same l y) (sym growing-list) ∙ new in
-          let grown : listed i ++ y ∷ [] ≡ listed (i + 1) = sym (listed-more ∙ ap (λ t. cond t (listed i) (listed i ++ y ∷ [])) apart) in
+          let grown : listed i ++ y ∷ [] ≡ listed (i + 1) = sym (listed-more i y inside here ∙ ap (λ t. cond t (listed i) (listed i ++ y ∷ [])) apart) in
           record {
             count = ap (λ n. n + 1) count ∙ sym (length-push (listed i) y) ∙ ap length grown;
             fits = omega arith;

@@ -36,10 +36,10 @@ written slice x (New i) = set slice i x
 written slice x NoRoom = slice
 
 -- how many entries are in use after an answer
-abbrev pub inUse : ℕ → Entered → ℕ
-inUse len (Known i) = len
-inUse len (New i) = len + 1
-inUse len NoRoom = len
+abbrev pub usedAfter : ℕ → Entered → ℕ
+usedAfter len (Known i) = len
+usedAfter len (New i) = len + 1
+usedAfter len NoRoom = len
 
 -- an answer that found room leaves the list with x
 abbrev pub Grown : {X : Type 0} → (X → X → Bool) → (before after : List X) → X → Entered → Type 0
@@ -56,4 +56,7 @@ abbrev pub AnsweredAll : {X : Type 0} → (X → X → Bool) → (before after :
 AnsweredAll same before after len ys (Ok n) =
     (n ≤ length before) × (n ≡ length (enteredAll same (take len before) ys)) × (after ≡ laid (enteredAll same (take len before) ys) before)
 AnsweredAll same before after len ys (Err full) =
-    (full .index < length ys) × (after ≡ enteredAll same (take len before) (take (full .index) ys)) × At (λ y. known same after y ≡ false) ys (full .index)
+    (full .index < length ys)
+    × (length after ≡ length before)
+    × (after ≡ enteredAll same (take len before) (take (full .index) ys))
+    × At (λ y. known same after y ≡ false) ys (full .index)

@@ -4,7 +4,7 @@ ghost use mathlib.Core.Path.{_≡_};
 ghost use Rattle.std.specs.Results.{Cases};
 ghost use Rattle.std.specs.Vec.{made};
 ghost use Rattle.std.specs.shelf.Lists.{All};
-ghost use Rattle.first_wins.specs.Entering.{Answered, written, inUse, Grown, AnsweredAll};
+ghost use Rattle.first_wins.specs.Entering.{Answered, written, usedAfter, Grown, AnsweredAll};
 ghost use Rattle.first_wins.specs.Keys.{FirstAt};
 ghost use Rattle.first_wins.specs.Laws.{EarliestOfAll, OnceEach, NothingTwice, InARow};
 use crate::keys::Keys;
@@ -54,8 +54,8 @@ pub fn enter<K: Keys>(keys: &K, slice: &mut [K::Entry], len: usize, new: K::Entr
     requires asked { ⌜ K·Keys .admits (now keys) new ⌝ }
     ensures answer { λ r. ⌜ Answered (K·Keys .same (now (keys .entry))) (now (slice .entry)) len new r ⌝ }
     ensures holds { λ r. ⌜ now (slice .exit) ≡ written (now (slice .entry)) new r ⌝ }
-    ensures grown { λ r. ⌜ Grown (K·Keys .same (now (keys .entry))) (take len (now (slice .entry))) (take (inUse len r) (now (slice .exit))) new r ⌝ }
-    ensures admitted { λ r. ⌜ All (K·Keys .admits (now (keys .entry))) (take (inUse len r) (now (slice .exit))) ⌝ }
+    ensures grown { λ r. ⌜ Grown (K·Keys .same (now (keys .entry))) (take len (now (slice .entry))) (take (usedAfter len r) (now (slice .exit))) new r ⌝ }
+    ensures admitted { λ r. ⌜ All (K·Keys .admits (now (keys .entry))) (take (usedAfter len r) (now (slice .exit))) ⌝ }
 {
     if let Some(index) = position(keys, in_use(slice, len), &new) {
         return Entered::Known(index);
