@@ -57,7 +57,11 @@ def snake(name):
 NAMES = {name: name.replace("-", "_") for name in DASHED}
 NAMES |= {name: snake(name) for name in CAMEL}
 NAMES |= JOINED
-NAME = re.compile(r"(?<![\w'◌.-])(\.?)(" + "|".join(sorted(map(re.escape, NAMES), key=len, reverse=True)) + r")(?![\w'◌-])")
+# After a dot stand fields, none of whose names has a dash, and goals, whose names Rattle makes.
+NAME = re.compile(
+    r"(?<![\w'◌.-])(" + "|".join(sorted(map(re.escape, NAMES), key=len, reverse=True)) + r")(?![\w'◌-])"
+    + r"|(?<=\.)(" + "|".join(sorted(CAMEL, key=len, reverse=True)) + r")(?![\w'◌-])"
+)
 
 
 def main():
@@ -66,7 +70,7 @@ def main():
     for path in sorted(files):
         with open(path, encoding="utf-8") as file:
             text = file.read()
-        respelt, count = NAME.subn(lambda m: m.group(1) + NAMES[m.group(2)], text)
+        respelt, count = NAME.subn(lambda m: NAMES[m.group()], text)
         if respelt != text:
             places += count
             with open(path, "w", encoding="utf-8") as file:

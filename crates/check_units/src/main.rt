@@ -1,4 +1,6 @@
 // Checks one unit for each line of standard input, and prints one line for each.
+#![tactic(auto)]
+
 use std::io::{BufRead, BufReader, BufWriter, Write};
 use unit_lines::ending::line_text;
 use unit_lines::line::UnitLine;

@@ -5,7 +5,7 @@ use Rattle.std.proofs.ByRecursion.{All-push, All-weaker}
 use Rattle.std.proofs.lemmas.List.{append-nil, append_assoc}
 use Rattle.std.proofs.lemmas.Bool.{or_cases, or_parts, both_ways}
 use Rattle.std.proofs.lemmas.Bool.Decides.{same_from_decides}
-use Rattle.std.specs.List.{AllByRecursion as All}
+use Rattle.std.specs.List.{AllByRecursion}
 use Rattle.first_wins.specs.Keys.{known, Equivalence}
 use Rattle.first_wins.specs.Entering.{entered, entered_all}
 use Rattle.first_wins.specs.Laws.{Once, OnceEach}
@@ -53,7 +53,7 @@ module _ {X : Type 0} (same : X → X → Bool) (lawful : Equivalence same) wher
       (λ h. lawful.transitive z x y h e, λ h. lawful.transitive z y x h (lawful.symmetric x y e)) (λ h. h, λ h. h) in
       ap (λ t. cond t (z ∷ sharing x zs) (sharing x zs)) one ∙ ap (λ l. cond (same z y) (z ∷ l) l) (shared_alike x y e zs)
 
-  once_like : (xs ys : List X) (y : X) → All (Once same xs) ys → known same ys y ≡ true → Once same xs y
+  once_like : (xs ys : List X) (y : X) → AllByRecursion (Once same xs) ys → known same ys y ≡ true → Once same xs y
   once_like xs [] y h k = absurd (both_ways false refl k)
   once_like xs (x ∷ ys) y h k =
       elim (or_cases (same x y) (known same ys y) k) [
@@ -63,20 +63,20 @@ module _ {X : Type 0} (same : X → X → Bool) (lawful : Equivalence same) wher
 
   -- a list that has each of its keys, and each of those that it was given, once
   record Each (xs given : List X) : Type 0 where
-    pub own : All (Once same xs) xs
-    pub all : All (Once same xs) given
+    pub own : AllByRecursion (Once same xs) xs
+    pub all : AllByRecursion (Once same xs) given
 
   each_entered : (xs given : List X) (y : X) → Each xs given → (t : Bool) → known same xs y ≡ t → Each (cond t xs (xs ++ y ∷ [])) (given ++ y ∷ [])
   each_entered xs given y h true k =
       record { own = h.own; all = All-push (Once same xs) given y h.all (once_like xs xs y h.own k) }
   each_entered xs given y h false k =
-      let more = λ (zs : List X) (a : All (Once same xs) zs). All-push (Once same (xs ++ y ∷ [])) zs y (All-weaker (Once same xs) (Once same (xs ++ y ∷ [])) (λ z o. Once-push xs z y o k) zs a) (once_new xs y k) in
+      let more = λ (zs : List X) (a : AllByRecursion (Once same xs) zs). All-push (Once same (xs ++ y ∷ [])) zs y (All-weaker (Once same xs) (Once same (xs ++ y ∷ [])) (λ z o. Once-push xs z y o k) zs a) (once_new xs y k) in
       record { own = more xs h.own; all = more given h.all }
 
-  each_entered_all : (xs given ys : List X) → Each xs given → All (Once same (entered_all same xs ys)) (given ++ ys)
-  each_entered_all xs given [] h = subst (All (Once same xs)) (sym (append-nil given)) h.all
+  each_entered_all : (xs given ys : List X) → Each xs given → AllByRecursion (Once same (entered_all same xs ys)) (given ++ ys)
+  each_entered_all xs given [] h = subst (AllByRecursion (Once same xs)) (sym (append-nil given)) h.all
   each_entered_all xs given (y ∷ ys) h =
-      subst (All (Once same (entered_all same xs (y ∷ ys)))) (append_assoc given (y ∷ []) ys)
+      subst (AllByRecursion (Once same (entered_all same xs (y ∷ ys)))) (append_assoc given (y ∷ []) ys)
       (each_entered_all (entered same xs y) (given ++ y ∷ []) ys (each_entered xs given y h (known same xs y) refl))
 
   pub once_each : (before ys : List X) → OnceEach same before ys (entered_all same before ys)

@@ -4,7 +4,7 @@ use mathlib.Core.Bool.{or-false}
 use Rattle.std.proofs.ByRecursion.{All-append, All-weaker, all-has}
 use Rattle.std.proofs.lemmas.List.{append-nil, append_assoc}
 use Rattle.std.proofs.lemmas.Bool.{or_left, or_right}
-use Rattle.std.specs.List.{ContainsAt as Has, AllByRecursion as All}
+use Rattle.std.specs.List.{ContainsAt, AllByRecursion}
 use Rattle.first_wins.specs.Keys.{known}
 use Rattle.first_wins.specs.Entering.{entered, entered_all}
 use Rattle.first_wins.specs.Earliest.{earliest_after, earliest}
@@ -32,12 +32,12 @@ module _ {X : Type 0} (same : X → X → Bool) where
   pub in_a_row : (before ys : List X) → InARow same before ys (entered_all same before ys)
   in_a_row before ys start past e = ap (λ l. entered_all same l ys) e ∙ sym (entered_all-append start past ys)
 
-  entered-known : (xs ys : List X) → All (λ y. known same xs y ≡ true) ys → entered_all same xs ys ≡ xs
+  entered-known : (xs ys : List X) → AllByRecursion (λ y. known same xs y ≡ true) ys → entered_all same xs ys ≡ xs
   entered-known xs [] h = refl
   entered-known xs (y ∷ ys) h = let k = h.0 in simp k (entered-known xs ys h.1)
 
   module _ (reflexive : (a : X) → same a a ≡ true) where
-    knows_itself : (xs : List X) → All (λ x. known same xs x ≡ true) xs
+    knows_itself : (xs : List X) → AllByRecursion (λ x. known same xs x ≡ true) xs
     knows_itself [] = tt
     knows_itself (x ∷ xs) = (
       or_left (same x x) (known same xs x) (reflexive x),
@@ -51,19 +51,19 @@ module _ {X : Type 0} (same : X → X → Bool) where
         go true k = k
         go false k = known-push same xs y y ∙ or_right (known same xs y) (same y y) (reflexive y)
 
-    knows_all : (xs ys : List X) → All (λ y. known same (entered_all same xs ys) y ≡ true) ys
+    knows_all : (xs ys : List X) → AllByRecursion (λ y. known same (entered_all same xs ys) y ≡ true) ys
     knows_all xs [] = tt
     knows_all xs (y ∷ ys) = (known-entered_all (entered same xs y) ys y (known_new xs y), knows_all (entered same xs y) ys)
 
     pub nothing_twice : (before ys : List X) → NothingTwice same before ys (entered_all same before ys)
     nothing_twice before ys again h =
         let after = entered_all same before ys in
-        let there : All (λ y. known same (entered_all same before ys) y ≡ true) (before ++ ys) =
+        let there : AllByRecursion (λ y. known same (entered_all same before ys) y ≡ true) (before ++ ys) =
         All-append (λ y. known same after y ≡ true) before ys
         (All-weaker (λ y. known same before y ≡ true) (λ y. known same after y ≡ true) (λ y k. known-entered_all before ys y k) before (knows_itself before))
         (knows_all before ys) in
         entered-known after again
-        (All-weaker (Has (before ++ ys)) (λ y. known same after y ≡ true) (λ y k. all-has (λ z. known same after z ≡ true) (before ++ ys) y there k) again h)
+        (All-weaker (ContainsAt (before ++ ys)) (λ y. known same after y ≡ true) (λ y k. all-has (λ z. known same after z ≡ true) (before ++ ys) y there k) again h)
 
   module _ (transitive : (a b c : X) → same a b ≡ true → same b c ≡ true → same a c ≡ true) where
     -- a list that knows what the past knows

@@ -1,6 +1,6 @@
 // The list: the first `len` entries of a slice, or all of them where it has fewer.
 ghost use Rattle.std.specs.Prelude.{◌≡◌, take, IfOk, MatchResult};
-ghost use Rattle.std.specs.List.{AllByRecursion as All};
+ghost use Rattle.std.specs.List.{AllByRecursion};
 ghost use Rattle.first_wins.specs.Entering.{Answered, written, used_after, Grown, AnsweredAll};
 ghost use Rattle.first_wins.specs.Keys.{FirstAt};
 ghost use Rattle.first_wins.specs.Laws.{EarliestOfAll, OnceEach, NothingTwice, InARow};
@@ -23,7 +23,7 @@ pub struct Full {
 
 // Where the first entry with the key of `sought` stands.
 pub fn position<K: Keys>(keys: &K, list: &[K::Entry], sought: &K::Entry) -> Option<usize>
-    requires held { All (K.Keys.admits keys.now) list.now }
+    requires held { AllByRecursion (K.Keys.admits keys.now) list.now }
     requires asked { K.Keys.admits keys.now sought.now }
     ensures { FirstAt (K.Keys.same keys.now) list.now sought.now result }
 {
@@ -48,12 +48,12 @@ fn in_use<T: Copy>(slice: &[T], len: usize) -> &[T]
 
 // Enters an entry into the list of the first `len` entries of the slice.
 pub fn enter<K: Keys>(keys: &K, slice: &mut [K::Entry], len: usize, new: K::Entry) -> Entered
-    requires held { All (K.Keys.admits keys.now) (take len slice.old) }
+    requires held { AllByRecursion (K.Keys.admits keys.now) (take len slice.old) }
     requires asked { K.Keys.admits keys.now new }
     ensures answer { Answered (K.Keys.same keys.now) slice.old len new result }
     ensures holds { slice.new ≡ written slice.old new result }
     ensures grown { Grown (K.Keys.same keys.now) (take len slice.old) (take (used_after len result) slice.new) new result }
-    ensures admitted { All (K.Keys.admits keys.now) (take (used_after len result) slice.new) }
+    ensures admitted { AllByRecursion (K.Keys.admits keys.now) (take (used_after len result) slice.new) }
 {
     if let Some(index) = position(keys, in_use(slice, len), &new) {
         return Entered::Known(index);
@@ -73,10 +73,10 @@ pub fn enter_all<K: Keys>(
     len: usize,
     sequence: &[K::Entry],
 ) -> Result<usize, Full>
-    requires held { All (K.Keys.admits keys.now) (take len slice.old) }
-    requires asked { All (K.Keys.admits keys.now) sequence.now }
+    requires held { AllByRecursion (K.Keys.admits keys.now) (take len slice.old) }
+    requires asked { AllByRecursion (K.Keys.admits keys.now) sequence.now }
     ensures answer { AnsweredAll (K.Keys.same keys.now) slice.old slice.new len sequence.now result }
-    ensures admitted { MatchResult result (λ n. All (K.Keys.admits keys.now) (take n slice.new)) (λ _. All (K.Keys.admits keys.now) slice.new) }
+    ensures admitted { MatchResult result (λ n. AllByRecursion (K.Keys.admits keys.now) (take n slice.new)) (λ _. AllByRecursion (K.Keys.admits keys.now) slice.new) }
     ensures earliest { IfOk result (λ n. EarliestOfAll (K.Keys.same keys.now) (take len slice.old) sequence.now (take n slice.new)) }
     ensures once { IfOk result (λ n. OnceEach (K.Keys.same keys.now) (take len slice.old) sequence.now (take n slice.new)) }
     ensures again { IfOk result (λ n. NothingTwice (K.Keys.same keys.now) (take len slice.old) sequence.now (take n slice.new)) }

@@ -54,7 +54,8 @@ fn keeps_the_first_of_equal_words(rt: HostRuntime) -> Result<(), Fail> {
     match enter_all(&words, &mut list, 0, &[a, items, other_a, aa, nothing]) {
         Ok(len) => {
             assert_eq!(rt; position(&words, &list[..len], &other_a), Some(0));
-            check_eq(len, 4)
+            assert_eq!(rt; len, 4);
+            Ok(())
         }
         Err(full) => Err(Fail::new("there was no room")),
     }?;
@@ -62,6 +63,6 @@ fn keeps_the_first_of_equal_words(rt: HostRuntime) -> Result<(), Fail> {
     assert_eq!(rt; list[1], items);
     assert_eq!(rt; list[2], aa);
     assert_eq!(rt; list[3], nothing);
-    assert!(rt; words.word(items) == b"items");
+    assert!(rt; words.word(items) == b"items".as_slice());
     Ok(())
 }

@@ -44,7 +44,7 @@ module _ {S F R : Type 0} (m : Machine S F R) where
     one i n a b =
         elim (cases_order i n) [
           | inl e ↦ e
-          | inr d ↦ elim d [ inl l ↦ absurd (b.notBefore i l a.over) | inr l ↦ absurd (a.notBefore n l b.over) ]
+          | inr d ↦ elim d [ inl l ↦ absurd (b.not_before i l a.over) | inr l ↦ absurd (a.not_before n l b.over) ]
         ]
 
     abbrev Found : ℕ → Type 0

@@ -7,10 +7,11 @@ use Rattle.tables.specs.Cells.{row_of}
 use Rattle.tables.specs.First.{first, row_refusal, first_row}
 use Rattle.tables.proofs.Firsts.{first_more, first_found}
 
--- what a turn takes, as the iterator says it: `size` and `left` are what it holds before, `size'` and `left'` after
-abbrev pub Turn : (count size : ℕ) (left : List ℕ) (row : ℕ) (bytes : List ℕ) (count' size' : ℕ) (left' : List ℕ) → Type 0
-Turn count size left row bytes count' size' left' =
-    ((size' ≡ size) × ((left ≡ bytes ++ left') × (length bytes ≡ size))) × (row ≡ count) × (count' ≡ count + 1) × (row + 1 < 18446744073709551616)
+-- what a turn takes, as the iterator says it: `size`, `left` and `over`, the bytes that make no row, are what it holds before,
+-- `size'`, `left'` and `over'` after
+abbrev pub Turn : (count size : ℕ) (left over : List ℕ) (row : ℕ) (bytes : List ℕ) (count' size' : ℕ) (left' over' : List ℕ) → Type 0
+Turn count size left over row bytes count' size' left' over' =
+    ((size' ≡ size) × ((left ≡ bytes ++ left') × (length bytes ≡ size)) × (over' ≡ over)) × (row ≡ count) × (count' ≡ count + 1) × (row + 1 < 18446744073709551616)
 
 next_multiple : (i width : ℕ) → (i + 1) * width ≡ i * width + width
 next_multiple i width = rw (add-mul, one-mul)
@@ -34,7 +35,8 @@ module _ {F R : Type 0} (tell : ℕ → F → R) (flaw : List ℕ → Option F) 
         let less : length table < (count + 1) * width = rw next_multiple (omega (arith, so_far.sized, so_far.past, length-drop (count * width) table, ap length so_far.rest)) in
         rw (div-eq_of_lt-le width so_far.past less) so_far.none
 
-    module _ (row : ℕ) (bytes : List ℕ) (count' size' : ℕ) (left' : List ℕ) (turn : Turn count size left row bytes count' size' left') where
+    module _ (over : List ℕ) (row : ℕ) (bytes : List ℕ) (count' size' : ℕ) (left' over' : List ℕ)
+        (turn : Turn count size left over row bytes count' size' left' over') where
       cut : drop (count * width) table ≡ bytes ++ left'
       cut = sym so_far.rest ∙ turn.0.1.0
 

@@ -3,7 +3,7 @@ use Rattle.std.proofs.Common.{◌≡◌, ℕ, suc, ◌%◌, ◌<◌, ◌≤◌, 
 use Rattle.std.proofs.lemmas.Bool.{cases_eq}
 use Rattle.tables.specs.First.{row_refusal}
 use Rattle.tables.proofs.Passing.{passes_mapped}
-use Rattle.tables.proofs.Refusing.{then_some, first_some, mapped_some, either_some, refused_not}
+use Rattle.tables.proofs.Refusing.{then-Some, first_some, mapped_some, either_some, refused_not}
 use Rattle.unit.specs.Bytes.{Bytes, bytes_at, rows, row_at}
 use Rattle.unit.specs.Flaws.{at}
 use Rattle.unit.specs.Format.{number, width, limit, columned, every_table}
@@ -45,7 +45,7 @@ first_table : {G : Type 0} (f : Table → Option Refusal) (k : ℕ) (tables : Li
     → ((t : Table) → f t ≡ Some e → ((s : Table) → k ≤ number s → number s < number t → f s ≡ None) → G) → G
 first_table f k [] e c h go = absurd (grind arith)
 first_table f k (table ∷ tables) e c h go =
-    then_some (f table) (first_of f tables) e h
+    then-Some (f table) (first_of f tables) e h
     (λ here. go table here (λ s least less. let count = c.0 in absurd (omega arith)))
     (λ none later. first_table f (suc k) tables e c.1 later (λ t here before. go t here (λ s least less.
     ⊎_elim (λ same. rw (same_table s table (same ∙ sym c.0)) none) (λ other. let more : suc k ≤ number s = omega (arith, other) in before s more less) (cases_eq (number s) k))))
@@ -92,5 +92,5 @@ refused_first b = by (verdict b) refl
     by : (o : Option Refusal) → verdict b ≡ o → IfSome o (ToldFirst b)
     by None h = tt
     by (Some e) h =
-        then_some (first_of (size_verdict b) every_table) (first_of (rows_verdict b) columned) e h (sizes_first b e)
+        then-Some (first_of (size_verdict b) every_table) (first_of (rows_verdict b) columned) e h (sizes_first b e)
         (λ none later. rows_first b e ((sizes_pass b).0 none) later)

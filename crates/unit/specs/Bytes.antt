@@ -5,7 +5,7 @@ use Rattle.tables.specs.Cells.{row_of}
 use Rattle.unit.specs.Format.{width}
 use Rattle.unit.specs.declared.table.Table.{Table}
 use Rattle.unit.specs.declared.table.Table.TheVariants.{WordBytes, Words, Identifiers, Places, Functions, Blocks, Phis, Instructions, Declared, Steps}
-use Rattle.unit.specs.declared.tables.Tables.{Tables}
+use Rattle.unit.specs.declared.unit_tables.Tables.{Tables}
 
 pub record Bytes : Type 0 where
   pub word_bytes : List ℕ

@@ -9,7 +9,7 @@ ghost use Rattle.unit.specs.Verdict.{verdict};
 use crate::checked::CheckedUnit;
 use crate::refusal::Refusal;
 use crate::table_checks::check_tables;
-use crate::tables::Tables;
+use crate::unit_tables::Tables;
 
 impl<'a> CheckedUnit<'a> {
     // The unit without a row, as a place to fill.

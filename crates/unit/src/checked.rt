@@ -3,7 +3,7 @@ ghost use Rattle.std.specs.Prelude.{◌≡◌, true};
 ghost use Rattle.unit.specs.Bytes.{bytes_of};
 ghost use Rattle.unit.specs.Verdict.{passes};
 
-use crate::tables::Tables;
+use crate::unit_tables::Tables;
 
 #[derive(Clone, Copy)]
 pub struct CheckedUnit<'a> {

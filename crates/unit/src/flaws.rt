@@ -8,7 +8,7 @@ ghost use Rattle.unit.specs.Flaws.{number_flaw, part_flaw, optional_flaw, shape_
 use crate::refusal::Refusal;
 use crate::rows::Shape;
 use crate::table::Table;
-use crate::tables::Tables;
+use crate::unit_tables::Tables;
 use tables::parts::Part;
 
 // What is wrong with a row, before it is said where.

@@ -2,6 +2,8 @@
 // This crate knows how bytes lie in tables and nothing of what a collection does with them. It promises
 // that a unit is accepted exactly when every number, part, kind and flag is in order, that a refusal is
 // the first in order, and that what is read of a checked unit lies inside its table.
+#![tactic(auto)]
+
 pub mod check;
 pub mod checked;
 mod decoding;
@@ -11,4 +13,4 @@ pub mod refusal;
 pub mod rows;
 pub mod table;
 mod table_checks;
-pub mod tables;
+pub mod unit_tables;

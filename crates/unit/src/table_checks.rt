@@ -14,7 +14,7 @@ use crate::flaws::{
 use crate::refusal::Refusal;
 use crate::rows::{Instruction, ManualMemoDependencyRoot, Terminal};
 use crate::table::Table;
-use crate::tables::Tables;
+use crate::unit_tables::Tables;
 use tables::cells::cell;
 use tables::parts::part_of;
 

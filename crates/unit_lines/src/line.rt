@@ -8,7 +8,7 @@ ghost use Rattle.unit_lines.specs.Written.{ReadsItsOwnLine};
 use crate::error::LineError;
 use crate::fields::{read_field, take_field};
 use std::alloc::Global;
-use unit::tables::Tables;
+use unit::unit_tables::Tables;
 
 #[derive(Drop)]
 pub struct UnitLine {

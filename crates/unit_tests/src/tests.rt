@@ -6,7 +6,7 @@ use unit::checked::CheckedUnit;
 use unit::refusal::Refusal;
 use unit::rows::{Instruction, Shape, Terminal};
 use unit::table::Table;
-use unit::tables::Tables;
+use unit::unit_tables::Tables;
 use unit_lines::error::LineError;
 use unit_lines::line::UnitLine;
 
@@ -21,7 +21,7 @@ fn part(first: u32, count: u32) -> Part {
 // The names, by their words and identifiers.
 fn reads_names(rt: &impl Abort, unit: &CheckedUnit) {
     assert!(rt; unit.rows(Table::Words) == 1);
-    assert!(rt; unit.word(0) == b"a");
+    assert!(rt; unit.word(0) == b"a".as_slice());
     assert!(rt; unit.rows(Table::Identifiers) == 3);
     let props = unit.identifier(0);
     assert!(rt; props.named && !props.use_ref);

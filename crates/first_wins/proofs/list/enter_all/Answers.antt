@@ -1,7 +1,7 @@
 use Rattle.std.proofs.Common.{◌≡◌, false, length, take, sym, ap, subst, rules}
 use Rattle.std.proofs.lemmas.List.Elements.{at_read}
 use Rattle.std.proofs.ByRecursion.{All-get_or}
-use Rattle.std.specs.List.{AllByRecursion as All}
+use Rattle.std.specs.List.{AllByRecursion}
 use Rattle.first_wins.specs.Keys.{known}
 use Rattle.first_wins.specs.Laws.{EarliestOfAll, OnceEach, NothingTwice, InARow}
 use Rattle.first_wins.proofs.Once.{once_each}
@@ -12,8 +12,8 @@ use Rattle.first_wins.proofs.list.enter_all.Goals.{in-Known, in-New}
 
 pub loop-index-init : goal.loop-index-init
 loop-index-init g c =
-    let begun = growing_begins (g.K.Keys.same c.args.keys.now) c.args.slice.now c.args.len c.args.sequence.now _ (ap length c.in-use-used.ensures) in
-    (begun, subst (All (g.K.Keys.admits c.args.keys.now)) (sym (growing_list _ _ _ _ _ _ _ begun)) c.requires.held)
+    let begun = growing_begins (g.K.Keys.same c.args.keys.now) c.args.slice.now c.args.len c.args.sequence.now _ (ap length c.in_use-used.ensures) in
+    (begun, subst (AllByRecursion (g.K.Keys.admits c.args.keys.now)) (sym (growing_list _ _ _ _ _ _ _ begun)) c.requires.held)
 
 pub enter-requires : goal.enter-requires
 enter-requires g c =
@@ -33,7 +33,7 @@ returns-in-NoRoom g c =
     let stands = full.1 in
     let new = subst (λ xs. known same xs c.index-sequence-index.result ≡ false) full.0 told.answer.1 in
     let there = at_read c.args.sequence.now (λ y. known same c.enter.new.slice y ≡ false) _ _ c.loop-index-test.true c.index-sequence-index.is new in
-    let kept = subst (All admits) full.0 c.loop-index.invariant.1 in
+    let kept = subst (AllByRecursion admits) full.0 c.loop-index.invariant.1 in
     search rules
 
 pub loop-index-preserved : goal.loop-index-preserved

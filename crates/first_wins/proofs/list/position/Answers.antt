@@ -5,8 +5,8 @@ use Rattle.first_wins.specs.Keys.{known}
 use Rattle.first_wins.proofs.Known.{known_more}
 use Rattle.first_wins.proofs.list.position.Goals as goal
 
-pub same-key-requires : goal.same-key-requires
-same-key-requires g c =
+pub same_key-requires : goal.same_key-requires
+same_key-requires g c =
     let admits = g.K.Keys.admits c.args.keys.now in
     (subst admits (sym c.index-list-index.is) (All-get_or admits c.args.list.now _ _ c.loop-index-test.true c.requires.held), c.requires.asked)
 

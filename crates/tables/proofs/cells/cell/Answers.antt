@@ -3,4 +3,4 @@ use Rattle.tables.proofs.cells.cell.Goals as goal
 
 pub returns : goal.returns
 unfolding cell
-returns c = c.number-at.ensures
+returns c = c.number_at.ensures

@@ -5,16 +5,16 @@ use Rattle.unit.proofs.table_checks.check_rows.Goals as goal
 pub loop-row-init : goal.loop-row-init
 loop-row-init c = search (rules, search_begins)
 
-pub check-row-requires : goal.check-row-requires
-check-row-requires c = omega (arith, row_long _ _ _ _ _ _ _ c.loop-row.invariant.2 _ _ _ _ _ c.in-Some.ensures.steps)
+pub check_row-requires : goal.check_row-requires
+check_row-requires c = omega (arith, row_long _ _ _ _ _ _ _ c.loop-row.invariant.2 _ _ _ _ _ _ _ c.in-Some.ensures.steps)
 
 pub returns-in-Err : goal.returns-in-Err
 returns-in-Err c =
-    rw c.at.ensures (sym (search_finds _ _ _ _ _ _ _ c.loop-row.invariant.2 _ _ _ _ _ c.in-Some.ensures.steps _ c.in-Err.ensures))
+    rw c.at.ensures (sym (search_finds _ _ _ _ _ _ _ c.loop-row.invariant.2 _ _ _ _ _ _ _ c.in-Some.ensures.steps _ c.in-Err.ensures))
 
 pub loop-row-preserved : goal.loop-row-preserved
 loop-row-preserved c =
-    let goes = search_goes_on _ _ _ _ _ _ _ c.loop-row.invariant.2 _ _ _ _ _ c.in-Some.ensures.steps c.in-default.ensures in
+    let goes = search_goes_on _ _ _ _ _ _ _ c.loop-row.invariant.2 _ _ _ _ _ _ _ c.in-Some.ensures.steps c.in_default.ensures in
     search rules
 
 pub returns : goal.returns

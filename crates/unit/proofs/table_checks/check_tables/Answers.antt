@@ -5,9 +5,9 @@ use Rattle.unit.proofs.Exact.{accepted_exactly}
 use Rattle.unit.proofs.Order.{refused_first}
 use Rattle.unit.proofs.table_checks.check_tables.Goals as goal
 
-pub returns-in-err-check-sizes : goal.returns-in-err-check-sizes
+pub returns-in_err-check_sizes : goal.returns-in_err-check_sizes
 unfolding verdict
-returns-in-err-check-sizes c = let b = bytes_of c.args.tables.now in record { answer = search rules; exactly = accepted_exactly b; first = refused_first b }
+returns-in_err-check_sizes c = let b = bytes_of c.args.tables.now in record { answer = search rules; exactly = accepted_exactly b; first = refused_first b }
 
 pub returns : goal.returns
 unfolding verdict

@@ -3,5 +3,5 @@ use Rattle.unit.specs.Held.{held}
 use Rattle.unit.proofs.Exact.{few_rows}
 use Rattle.unit.proofs.checked.CheckedUnit.rows.Goals as goal
 
-pub overflow-cast-result : goal.overflow-cast-result
-overflow-cast-result c = let u = c.args.self.now in let few = few_rows (held u) u.sound c.args.table in search rules
+pub overflow_cast-result : goal.overflow_cast-result
+overflow_cast-result c = let u = c.args.self.now in let few = few_rows (held u) u.sound c.args.table in search rules
