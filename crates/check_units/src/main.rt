@@ -2,6 +2,7 @@
 #![tactic(auto)]
 
 use std::io::{BufRead, BufReader, BufWriter, Write};
+use std::process::ExitCode;
 use unit_lines::ending::line_text;
 use unit_lines::line::UnitLine;
 
@@ -23,10 +24,13 @@ fn run(rt: &HostRuntime) -> anyhow::Result<()> {
     Ok(())
 }
 
-fn main(rt: HostRuntime) -> anyhow::Result<()> {
-    let answer = run(&rt);
-    if let Err(error) = &answer {
-        eprintln!(rt; "check_units: {error}")?;
+fn main(rt: HostRuntime) -> ExitCode {
+    match run(&rt) {
+        Ok(()) => ExitCode::SUCCESS,
+        Err(error) => {
+            // Where the message can't be written either, the status still tells.
+            let _ = eprintln!(rt; "check_units: {error}");
+            ExitCode::FAILURE
+        }
     }
-    answer
 }
