@@ -1,16 +1,18 @@
 -- What is said of a search, of an entry and of a sequence can be said of one answer only.
-use Rattle.std.proofs.Common.{◌≡◌, ℕ, ◌+◌, ◌<◌, ◌≤◌, Bool, true, false, cond, List, [], ◌∷◌, ◌++◌, length, get_or, take, drop, Some, None, Ok, Err, Option, Result, sym, refl, ap, ◌∙◌, inl, inr, arith}
+use Rattle.std.proofs.Common.{◌≡◌, ℕ, ◌+◌, ◌<◌, ◌≤◌, Bool, true, false, List, [], ◌∷◌, ◌++◌, length, slice_index_or, take, drop, Some, None, Ok, Err, Option, Result, sym, refl, ap, ◌∙◌, inl, inr, arith}
 use Rattle.std.proofs.lemmas.List.{get_or_default, get_or-take, length_push, length-take, take-append-drop, take-take}
+use Rattle.std.proofs.lemmas.List.Folds.{list_any_at}
 use Rattle.std.proofs.lemmas.Bool.{both_ways, cases_order}
+use Rattle.std.specs.Prelude.{if◌then◌else◌}
 use Rattle.first_wins.specs.Entering.{entered, entered_all, Answered, AnsweredAll}
 use Rattle.first_wins.specs.Keys.{known, FirstAt}
 use Rattle.first_wins.specs.Laws.{AnswersArePinned}
 use Rattle.first_wins.specs.declared.list.Entered.{Entered}
 use Rattle.first_wins.specs.declared.list.Entered.TheVariants.{Known, New, NoRoom}
 use Rattle.first_wins.specs.declared.list.Full.{Full}
-use Rattle.first_wins.proofs.Known.{known_at, first_known}
+use Rattle.first_wins.proofs.Known.{first_known}
 use Rattle.first_wins.proofs.Sequences.{listed, listed_more, listed_all}
-use Rattle.first_wins.proofs.Wins.{entered_all-append}
+use Rattle.std.proofs.lemmas.List.Sums.{fold-append}
 
 some_entry : {X : Type 0} (xs : List X) → 0 < length xs → X
 some_entry [] some = absurd (omega arith)
@@ -22,7 +24,7 @@ module _ {X : Type 0} (same : X → X → Bool) where
   not_later xs x i j (inside, here, _) (inside', _, none) before =
       let long = length-take j xs in
       both_ways (known same (take j xs) x) none
-      (known_at same (take j xs) x i (omega arith) (ap (λ y. same y x) (get_or-take j xs i x before) ∙ here x))
+      (list_any_at (λ y. same y x) (take j xs) i x (omega arith) (ap (λ y. same y x) (get_or-take j xs i x before) ∙ here x))
 
   one_index : (xs : List X) (x : X) (i j : ℕ) → FirstAt same xs x (Some i) → FirstAt same xs x (Some j) → i ≡ j
   one_index xs x i j p q =
@@ -52,7 +54,7 @@ module _ {X : Type 0} (same : X → X → Bool) where
   one_enter slice len x NoRoom NoRoom p q = refl
 
   -- a list that is entered into only grows
-  grows_one : (xs : List X) (y : X) (t : Bool) → length xs ≤ length (cond t xs (xs ++ y ∷ []))
+  grows_one : (xs : List X) (y : X) (t : Bool) → length xs ≤ length (if t then xs else xs ++ y ∷ [])
   grows_one xs y true = omega arith
   grows_one xs y false = let more = length_push xs y in omega arith
 
@@ -68,15 +70,15 @@ module _ {X : Type 0} (same : X → X → Bool) where
     list i = listed same before len ys i
 
     -- an entry that is new makes every later list longer
-    longer : (i k : ℕ) (y : X) → i < length ys → y ≡ get_or ys i y → known same (list i) y ≡ false → i < k → length (list i) < length (list k)
+    longer : (i k : ℕ) (y : X) → i < length ys → y ≡ slice_index_or ys i y → known same (list i) y ≡ false → i < k → length (list i) < length (list k)
     longer i k y inside here new later =
         let rest = drop (i + 1) (take k ys) in
         let one : length (list (i + 1)) ≡ length (list i) + 1 =
-        ap length (listed_more same before len ys i y inside here ∙ ap (λ t. cond t (list i) (list i ++ y ∷ [])) new) ∙ length_push (list i) y in
+        rw (listed_more same before len ys i y inside here) (simp (new, length_push)) in
         let parts : take (i + 1) ys ++ drop (i + 1) (take k ys) ≡ take k ys =
         ap (λ l. l ++ rest) (sym (take-take (i + 1) k ys (omega arith))) ∙ take-append-drop (i + 1) (take k ys) in
         let whole : length (list k) ≡ length (entered_all same (list (i + 1)) (drop (i + 1) (take k ys))) =
-        ap length (ap (entered_all same (take len before)) (sym parts) ∙ entered_all-append same (take len before) (take (i + 1) ys) rest) in
+        ap length (ap (entered_all same (take len before)) (sym parts) ∙ fold-append (entered same) (take len before) (take (i + 1) ys) rest) in
         let more = grows (list (i + 1)) rest in
         omega arith
 
@@ -84,9 +86,9 @@ module _ {X : Type 0} (same : X → X → Bool) where
     too_long : (a : List X) (full : Full) → AnsweredAll same before a len ys (Err full) → (k : ℕ) → full.index < k → length before < length (list k)
     too_long a full (inside, size, held, new) k later =
         let d = some_entry ys (omega arith) in
-        let unknown = ap (λ l. known same l (get_or ys full.index d)) (sym held) ∙ new d in
+        let unknown = ap (λ l. known same l (slice_index_or ys full.index d)) (sym held) ∙ new d in
         let count = ap length held in
-        let more = longer full.index k (get_or ys full.index d) inside (get_or_default ys full.index d (get_or ys full.index d) inside) unknown later in
+        let more = longer full.index k (slice_index_or ys full.index d) inside (get_or_default ys full.index d (slice_index_or ys full.index d) inside) unknown later in
         omega arith
 
     -- so a sequence of which an entry finds no room does not fit

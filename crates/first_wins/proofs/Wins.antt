@@ -1,10 +1,12 @@
 -- Entering in a row, entering twice, and the earliest entries. Each section asks for the part of the equivalence that it uses.
-use Rattle.std.proofs.Common.{◌≡◌, Bool, true, false, cond, ◌||◌, List, [], ◌∷◌, ◌++◌, sym, refl, ap, ◌∙◌}
+use Rattle.std.proofs.Common.{◌≡◌, Bool, true, false, ◌||◌, List, [], ◌∷◌, ◌++◌, slice_index_or, sym, refl, ap, ◌∙◌}
 use mathlib.Core.Bool.{or-false}
-use Rattle.std.proofs.ByRecursion.{All-append, All-weaker, all-has}
+use Rattle.std.proofs.lemmas.List.Elements.{All-nil, All-cons, All-head, All-tail, All-append, All-weaker, All-contains}
+use Rattle.std.proofs.lemmas.List.Sums.{fold-append}
 use Rattle.std.proofs.lemmas.List.{append-nil, append_assoc}
+use Rattle.std.proofs.lemmas.List.Folds.{list_any_at}
 use Rattle.std.proofs.lemmas.Bool.{or_left, or_right}
-use Rattle.std.specs.List.{ContainsAt, AllByRecursion}
+use Rattle.std.specs.Prelude.{if◌then◌else◌, All, Contains}
 use Rattle.first_wins.specs.Keys.{known}
 use Rattle.first_wins.specs.Entering.{entered, entered_all}
 use Rattle.first_wins.specs.Earliest.{earliest_after, earliest}
@@ -16,7 +18,7 @@ module _ {X : Type 0} (same : X → X → Bool) where
   known-entered : (xs : List X) (y z : X) → known same xs z ≡ true → known same (entered same xs y) z ≡ true
   known-entered xs y z k = go (known same xs y)
     where
-      go : (t : Bool) → known same (cond t xs (xs ++ y ∷ [])) z ≡ true
+      go : (t : Bool) → known same (if t then xs else xs ++ y ∷ []) z ≡ true
       go true = k
       go false = known-push same xs y z ∙ or_left (known same xs z) (same y z) k
 
@@ -25,45 +27,41 @@ module _ {X : Type 0} (same : X → X → Bool) where
   known-entered_all xs (y ∷ ys) z k = known-entered_all (entered same xs y) ys z (known-entered xs y z k)
 
   -- In a row: nothing is asked of the test.
-  pub entered_all-append : (xs ys zs : List X) → entered_all same xs (ys ++ zs) ≡ entered_all same (entered_all same xs ys) zs
-  entered_all-append xs [] zs = refl
-  entered_all-append xs (y ∷ ys) zs = entered_all-append (entered same xs y) ys zs
-
   pub in_a_row : (before ys : List X) → InARow same before ys (entered_all same before ys)
-  in_a_row before ys start past e = ap (λ l. entered_all same l ys) e ∙ sym (entered_all-append start past ys)
+  in_a_row before ys start past e = ap (λ l. entered_all same l ys) e ∙ sym (fold-append (entered same) start past ys)
 
-  entered-known : (xs ys : List X) → AllByRecursion (λ y. known same xs y ≡ true) ys → entered_all same xs ys ≡ xs
+  entered-known : (xs ys : List X) → All (λ y. known same xs y ≡ true) ys → entered_all same xs ys ≡ xs
   entered-known xs [] h = refl
-  entered-known xs (y ∷ ys) h = let k = h.0 in simp k (entered-known xs ys h.1)
+  entered-known xs (y ∷ ys) h =
+      let k : known same xs y ≡ true = All-head (λ z. known same xs z ≡ true) y ys h in
+      simp k (entered-known xs ys (All-tail (λ z. known same xs z ≡ true) y ys h))
 
   module _ (reflexive : (a : X) → same a a ≡ true) where
-    knows_itself : (xs : List X) → AllByRecursion (λ x. known same xs x ≡ true) xs
-    knows_itself [] = tt
-    knows_itself (x ∷ xs) = (
-      or_left (same x x) (known same xs x) (reflexive x),
-      All-weaker (λ y. known same xs y ≡ true) (λ y. known same (x ∷ xs) y ≡ true) (λ y k. or_right (same x y) (known same xs y) k) xs (knows_itself xs),
-    )
+    knows_itself : (xs : List X) → All (λ x. known same xs x ≡ true) xs
+    knows_itself xs k d inside = list_any_at (λ y. same y (slice_index_or xs k d)) xs k d inside (reflexive (slice_index_or xs k d))
 
     known_new : (xs : List X) (y : X) → known same (entered same xs y) y ≡ true
     known_new xs y = go (known same xs y) refl
       where
-        go : (t : Bool) → known same xs y ≡ t → known same (cond t xs (xs ++ y ∷ [])) y ≡ true
+        go : (t : Bool) → known same xs y ≡ t → known same (if t then xs else xs ++ y ∷ []) y ≡ true
         go true k = k
         go false k = known-push same xs y y ∙ or_right (known same xs y) (same y y) (reflexive y)
 
-    knows_all : (xs ys : List X) → AllByRecursion (λ y. known same (entered_all same xs ys) y ≡ true) ys
-    knows_all xs [] = tt
-    knows_all xs (y ∷ ys) = (known-entered_all (entered same xs y) ys y (known_new xs y), knows_all (entered same xs y) ys)
+    knows_all : (xs ys : List X) → All (λ y. known same (entered_all same xs ys) y ≡ true) ys
+    knows_all xs [] = All-nil (λ y. known same xs y ≡ true)
+    knows_all xs (y ∷ ys) =
+        All-cons (λ z. known same (entered_all same xs (y ∷ ys)) z ≡ true) y ys
+        (known-entered_all (entered same xs y) ys y (known_new xs y)) (knows_all (entered same xs y) ys)
 
     pub nothing_twice : (before ys : List X) → NothingTwice same before ys (entered_all same before ys)
     nothing_twice before ys again h =
         let after = entered_all same before ys in
-        let there : AllByRecursion (λ y. known same (entered_all same before ys) y ≡ true) (before ++ ys) =
+        let there : All (λ y. known same (entered_all same before ys) y ≡ true) (before ++ ys) =
         All-append (λ y. known same after y ≡ true) before ys
         (All-weaker (λ y. known same before y ≡ true) (λ y. known same after y ≡ true) (λ y k. known-entered_all before ys y k) before (knows_itself before))
         (knows_all before ys) in
         entered-known after again
-        (All-weaker (ContainsAt (before ++ ys)) (λ y. known same after y ≡ true) (λ y k. all-has (λ z. known same after z ≡ true) (before ++ ys) y there k) again h)
+        (All-weaker (Contains (before ++ ys)) (λ y. known same after y ≡ true) (λ y k. All-contains (λ z. known same after z ≡ true) (before ++ ys) y there k) again h)
 
   module _ (transitive : (a b c : X) → same a b ≡ true → same b c ≡ true → same a c ≡ true) where
     -- a list that knows what the past knows

@@ -1,6 +1,6 @@
 -- An entry is entered into a list by standing behind its last entry, unless one with its key is there: the first wins.
 -- The list is the front of a slice, so that there may be no room; what stands behind the list is left alone.
-use Rattle.std.specs.Prelude.{◌≡◌, ℕ, ◌+◌, ◌<◌, ◌≤◌, Bool, false, cond, List, [], ◌∷◌, ◌++◌, length, take, drop, Some, Ok, Err, Result, slice_set}
+use Rattle.std.specs.Prelude.{◌≡◌, ℕ, ◌+◌, ◌<◌, ◌≤◌, Bool, false, if◌then◌else◌, List, [], ◌∷◌, ◌++◌, length, take, drop, fold, Some, Ok, Err, Result, slice_set}
 use Rattle.std.specs.List.{HoldsAt}
 use Rattle.first_wins.specs.Keys.{known, FirstAt}
 use Rattle.first_wins.specs.declared.list.Entered.{Entered}
@@ -9,12 +9,11 @@ use Rattle.first_wins.specs.declared.list.Full.{Full}
 
 -- the list with x, where there is room
 abbrev pub entered : {X : Type 0} → (X → X → Bool) → List X → X → List X
-entered same xs x = cond (known same xs x) xs (xs ++ x ∷ [])
+entered same xs x = if known same xs x then xs else xs ++ x ∷ []
 
 -- the list with the entries of a sequence, one after another, where there is room
 abbrev pub entered_all : {X : Type 0} → (X → X → Bool) → List X → List X → List X
-entered_all same xs [] = xs
-entered_all same xs (y ∷ ys) = entered_all same (entered same xs y) ys
+entered_all same xs ys = fold (entered same) xs ys
 
 -- when which answer is given, for the first `len` entries of a slice
 abbrev pub Answered : {X : Type 0} → (X → X → Bool) → List X → ℕ → X → Entered → Type 0

@@ -1,13 +1,13 @@
 -- A test that decides whether two entries have one and the same key, whatever a key is, is an equivalence.
 -- A context names its proof where it says what its keys are, so that these stand here and not with the other proofs.
-use Rattle.std.specs.Prelude.{◌≡◌, ℕ, Bool, List, Decides, nat_eq, refl}
+use Rattle.std.specs.Prelude.{◌≡◌, ◌↔◌, ℕ, Bool, List, IsTrue, nat_eq, refl}
 use Rattle.std.proofs.Common.{sym, ◌∙◌}
 use Rattle.std.proofs.lemmas.Slice.Eq.{bytes_eq-Decides}
 use Rattle.std.proofs.lemmas.Bool.Decides.{Decides-eqb}
 use Rattle.std.specs.Str.{bytes_eq}
 use Rattle.first_wins.specs.Keys.{Equivalence}
 
-module _ {X Y : Type 0} (key : X → Y) (same : X → X → Bool) (decides : (a b : X) → Decides (same a b) (key a ≡ key b)) where
+module _ {X Y : Type 0} (key : X → Y) (same : X → X → Bool) (decides : (a b : X) → IsTrue (same a b) ↔ (key a ≡ key b)) where
   pub by_key : Equivalence same
   by_key =
       record {

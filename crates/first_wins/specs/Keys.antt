@@ -1,7 +1,7 @@
 -- When two entries have one key is a test on them, `same`. It has to be an equivalence: then an entry stands
 -- for all that have its key, and it does not matter with which of them another is compared.
-use Rattle.std.specs.Prelude.{◌≡◌, ℕ, ◌<◌, Bool, true, false, ◌||◌, List, [], ◌∷◌, length, take, Some, None, Option}
-use Rattle.std.specs.List.{HoldsAt}
+use Rattle.std.specs.Prelude.{◌≡◌, ℕ, ◌<◌, Bool, true, false, List, length, take, Some, None, Option}
+use Rattle.std.specs.List.{HoldsAt, list_any}
 
 pub record Equivalence {X : Type 0} (same : X → X → Bool) : Type 0 where
   pub reflexive : (a : X) → same a a ≡ true
@@ -10,8 +10,7 @@ pub record Equivalence {X : Type 0} (same : X → X → Bool) : Type 0 where
 
 -- some entry of the list has the key of x
 abbrev pub known : {X : Type 0} → (X → X → Bool) → List X → X → Bool
-known same [] x = false
-known same (y ∷ ys) x = same y x || known same ys x
+known same xs x = list_any (λ y. same y x) xs
 
 -- where the first entry with the key of x stands, or that there is none
 abbrev pub FirstAt : {X : Type 0} → (X → X → Bool) → List X → X → Option ℕ → Type 0

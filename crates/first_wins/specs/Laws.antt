@@ -1,7 +1,6 @@
 -- What a first-wins list is for. The first four laws are about a list `before`, a sequence `ys` that is entered into it, and the
 -- list `after` that this gives; of the equivalence, each uses what its line says and no more. The last is about the answers.
-use Rattle.std.specs.Prelude.{◌≡◌, ℕ, Bool, List, ◌++◌, length, filter, Option, Result}
-use Rattle.std.specs.List.{ContainsAt, AllByRecursion}
+use Rattle.std.specs.Prelude.{◌≡◌, ℕ, Bool, List, ◌++◌, length, filter, All, Contains, Option, Result}
 use Rattle.first_wins.specs.Earliest.{earliest}
 use Rattle.first_wins.specs.Entering.{entered_all, Answered, AnsweredAll}
 use Rattle.first_wins.specs.Keys.{FirstAt}
@@ -19,11 +18,11 @@ module _ {X : Type 0} (same : X → X → Bool) (before ys after : List X) where
 
   -- if it had each of its keys once, it has each of its keys and those of ys once: reflexive, symmetric, transitive
   abbrev pub OnceEach : Type 0
-  OnceEach = AllByRecursion (Once same before) before → AllByRecursion (Once same after) (before ++ ys)
+  OnceEach = All (Once same before) before → All (Once same after) (before ++ ys)
 
   -- entering again any entries that were there or were entered changes nothing: reflexive
   abbrev pub NothingTwice : Type 0
-  NothingTwice = (again : List X) → AllByRecursion (ContainsAt (before ++ ys)) again → entered_all same after again ≡ after
+  NothingTwice = (again : List X) → All (Contains (before ++ ys)) again → entered_all same after again ≡ after
 
   -- entering one sequence and then ys is entering both in a row: this holds of any test
   abbrev pub InARow : Type 0

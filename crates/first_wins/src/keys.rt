@@ -14,6 +14,7 @@ pub trait Keys {
     ghost lawful: { (k : Self) → Equivalence (same k) };
 
     fn same_key(&self, a: &Self::Entry, b: &Self::Entry) -> bool
-        requires { (admits self.now a.now) × (admits self.now b.now) }
+        requires first { admits self.now a.now }
+        requires second { admits self.now b.now }
         ensures { result ≡ same self.now a.now b.now };
 }

@@ -1,6 +1,6 @@
 // The list: the first `len` entries of a slice, or all of them where it has fewer.
-ghost use Rattle.std.specs.Prelude.{◌≡◌, take, IfOk, MatchResult};
-ghost use Rattle.std.specs.List.{AllByRecursion};
+// No struct holds the two: a model hides what the lent slice ends as, and no ghost field keeps what `admits` says, which may be any type.
+ghost use Rattle.std.specs.Prelude.{◌≡◌, take, All, IfOk, MatchResult};
 ghost use Rattle.first_wins.specs.Entering.{Answered, written, used_after, Grown, AnsweredAll};
 ghost use Rattle.first_wins.specs.Keys.{FirstAt};
 ghost use Rattle.first_wins.specs.Laws.{EarliestOfAll, OnceEach, NothingTwice, InARow};
@@ -8,6 +8,7 @@ ghost use Rattle.first_wins.specs.Laws.{EarliestOfAll, OnceEach, NothingTwice, I
 use crate::keys::Keys;
 
 // The key was there, and at which index; or the entry is new, and at which index it stands; or it is new and there is no room.
+// No Option or Result: a caller tells all three apart, and a list without room has not failed.
 #[derive(Clone, Copy, PartialEq, Eq, Debug)]
 pub enum Entered {
     Known(usize),
@@ -23,37 +24,28 @@ pub struct Full {
 
 // Where the first entry with the key of `sought` stands.
 pub fn position<K: Keys>(keys: &K, list: &[K::Entry], sought: &K::Entry) -> Option<usize>
-    requires held { AllByRecursion (K.Keys.admits keys.now) list.now }
+    requires held { All (K.Keys.admits keys.now) list.now }
     requires asked { K.Keys.admits keys.now sought.now }
     ensures { FirstAt (K.Keys.same keys.now) list.now sought.now result }
 {
-    for (index, held) in list.iter().enumerate() {
-        if keys.same_key(held, sought) {
-            return Some(index);
-        }
-    }
-    None
+    list.iter().position(|held| keys.same_key(held, sought))
 }
 
 // The list that stands in a slice.
 fn in_use<T: Copy>(slice: &[T], len: usize) -> &[T]
     ensures { result.now ≡ take len slice.now }
 {
-    if len < slice.len() {
-        &slice[..len]
-    } else {
-        slice
-    }
+    slice.get(..len).unwrap_or(slice)
 }
 
 // Enters an entry into the list of the first `len` entries of the slice.
 pub fn enter<K: Keys>(keys: &K, slice: &mut [K::Entry], len: usize, new: K::Entry) -> Entered
-    requires held { AllByRecursion (K.Keys.admits keys.now) (take len slice.old) }
+    requires held { All (K.Keys.admits keys.now) (take len slice.old) }
     requires asked { K.Keys.admits keys.now new }
     ensures answer { Answered (K.Keys.same keys.now) slice.old len new result }
     ensures holds { slice.new ≡ written slice.old new result }
     ensures grown { Grown (K.Keys.same keys.now) (take len slice.old) (take (used_after len result) slice.new) new result }
-    ensures admitted { AllByRecursion (K.Keys.admits keys.now) (take (used_after len result) slice.new) }
+    ensures admitted { All (K.Keys.admits keys.now) (take (used_after len result) slice.new) }
 {
     if let Some(index) = position(keys, in_use(slice, len), &new) {
         return Entered::Known(index);
@@ -61,6 +53,7 @@ pub fn enter<K: Keys>(keys: &K, slice: &mut [K::Entry], len: usize, new: K::Entr
     if len >= slice.len() {
         return Entered::NoRoom;
     }
+    // By its index: after `get_mut` a proof knows the length of the slice and none of its entries.
     slice[len] = new;
     Entered::New(len)
 }
@@ -73,10 +66,10 @@ pub fn enter_all<K: Keys>(
     len: usize,
     sequence: &[K::Entry],
 ) -> Result<usize, Full>
-    requires held { AllByRecursion (K.Keys.admits keys.now) (take len slice.old) }
-    requires asked { AllByRecursion (K.Keys.admits keys.now) sequence.now }
+    requires held { All (K.Keys.admits keys.now) (take len slice.old) }
+    requires asked { All (K.Keys.admits keys.now) sequence.now }
     ensures answer { AnsweredAll (K.Keys.same keys.now) slice.old slice.new len sequence.now result }
-    ensures admitted { MatchResult result (λ n. AllByRecursion (K.Keys.admits keys.now) (take n slice.new)) (λ _. AllByRecursion (K.Keys.admits keys.now) slice.new) }
+    ensures admitted { MatchResult result (λ n. All (K.Keys.admits keys.now) (take n slice.new)) (λ _. All (K.Keys.admits keys.now) slice.new) }
     ensures earliest { IfOk result (λ n. EarliestOfAll (K.Keys.same keys.now) (take len slice.old) sequence.now (take n slice.new)) }
     ensures once { IfOk result (λ n. OnceEach (K.Keys.same keys.now) (take len slice.old) sequence.now (take n slice.new)) }
     ensures again { IfOk result (λ n. NothingTwice (K.Keys.same keys.now) (take len slice.old) sequence.now (take n slice.new)) }

@@ -1,5 +1,5 @@
 // Numbers, compared as numbers.
-ghost use Rattle.std.specs.Prelude.{◌==◌};
+ghost use Rattle.std.specs.Prelude.{◌==◌, ⊤};
 ghost use Rattle.first_wins.specs.Equivalences.{numbers_equivalence};
 
 use crate::keys::Keys;
@@ -10,7 +10,7 @@ pub struct Numbers;
 impl Keys for Numbers {
     type Entry = u32;
 
-    ghost admits = { λ _ _. Unit {0} };
+    ghost admits = { λ _ _. ⊤ };
 
     ghost same = { λ _ a b. (a == b) };
 

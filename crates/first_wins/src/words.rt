@@ -6,7 +6,7 @@ ghost use Rattle.first_wins.specs.Words.{Lies, word_of};
 
 use crate::keys::Keys;
 
-// Where a word begins, and how many bytes it has.
+// Where a word begins, and how many bytes it has. A part of a table is the same two numbers, but this crate knows no table.
 #[derive(Clone, Copy, PartialEq, Eq, Debug)]
 pub struct Word {
     pub first: u32,
@@ -28,12 +28,6 @@ impl<'a> Words<'a> {
     }
 }
 
-fn same_bytes(a: &[u8], b: &[u8]) -> bool
-    ensures { result ≡ bytes_eq a.now b.now }
-{
-    a == b
-}
-
 impl<'a> Keys for Words<'a> {
     type Entry = Word;
 
@@ -44,6 +38,6 @@ impl<'a> Keys for Words<'a> {
     ghost lawful = { λ w. bytes_equivalence (word_of w.bytes.now) };
 
     fn same_key(&self, a: &Word, b: &Word) -> bool {
-        same_bytes(self.word(*a), self.word(*b))
+        self.word(*a) == self.word(*b)
     }
 }

@@ -51,14 +51,11 @@ fn keeps_the_first_of_equal_words(rt: HostRuntime) -> Result<(), Fail> {
     };
     let nothing = Word { first: 3, count: 0 };
     let mut list = [nothing; 5];
-    match enter_all(&words, &mut list, 0, &[a, items, other_a, aa, nothing]) {
-        Ok(len) => {
-            assert_eq!(rt; position(&words, &list[..len], &other_a), Some(0));
-            assert_eq!(rt; len, 4);
-            Ok(())
-        }
-        Err(full) => Err(Fail::new("there was no room")),
-    }?;
+    let Ok(len) = enter_all(&words, &mut list, 0, &[a, items, other_a, aa, nothing]) else {
+        return Err(Fail::new("there was no room"));
+    };
+    assert_eq!(rt; position(&words, &list[..len], &other_a), Some(0));
+    assert_eq!(rt; len, 4);
     assert_eq!(rt; list[0], a);
     assert_eq!(rt; list[1], items);
     assert_eq!(rt; list[2], aa);

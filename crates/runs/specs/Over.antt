@@ -1,12 +1,12 @@
 -- A run is over when no step is left to be taken: it rests where the machine is done, or it broke. It stays as it is from then on, and
 -- it is over for the first time after one number of steps only, the count of the run.
-use Rattle.std.specs.Prelude.{◌≡◌, ℕ, ◌+◌, ◌<◌, ◌≤◌}
+use Rattle.std.specs.Prelude.{◌≡◌, ℕ, ◌+◌, ◌<◌, ◌≤◌, ⊤}
 use Rattle.runs.specs.Machine.{Done, Machine}
 use Rattle.runs.specs.Runs.{Run, Rest, Broken, after}
 
 abbrev pub Over : {S F R : Type 0} → Machine S F R → Run S F R → Type 0
 Over m (Rest s told) = m.next s ≡ Done
-Over m (Broken f told) = Unit {0}
+Over m (Broken f told) = ⊤
 
 pub record FirstOver {S F R : Type 0} (m : Machine S F R) (start : S) (n : ℕ) : Type 0 where
   pub over : Over m (after m start n)

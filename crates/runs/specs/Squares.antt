@@ -1,6 +1,6 @@
 -- One machine is carried to another by a function on states when a step and then the function is the function and then a step:
 -- a commuting square. It need commute only where some invariant holds. Their runs are then carried too, step by step.
-use Rattle.std.specs.Prelude.{◌≡◌, ℕ}
+use Rattle.std.specs.Prelude.{◌≡◌, ℕ, ⊤}
 use Rattle.runs.specs.Invariants.{Invariant}
 use Rattle.runs.specs.Machine.{Outcome, Next, Done, Failed, Machine}
 use Rattle.runs.specs.Runs.{Run, Rest, Broken, after}
@@ -20,7 +20,7 @@ pub record Commutes {S T F R : Type 0} (P : S → Type 0) (m : Machine S F R) (l
   pub reports : (s : S) → P s → l.report (f s) ≡ m.report s
 
 abbrev pub Anywhere : {S : Type 0} → S → Type 0
-Anywhere s = Unit {0}
+Anywhere s = ⊤
 
 abbrev pub CarriesOver : (S T F R : Type 0) → Type 0
 CarriesOver S T F R =

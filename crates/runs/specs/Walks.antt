@@ -1,6 +1,6 @@
 -- A walk takes a machine's steps some at a time. An advance has an allowance and stops early only where a report falls due, the machine is
 -- done or a fault comes. Between advances a walk is looked at, and one that waits with a report is settled; neither moves the machine.
-use Rattle.std.specs.Prelude.{◌≡◌, ℕ, zero, suc, ◌+◌, ◌<◌, ◌≤◌, ◌↔◌, List, [], ◌∷◌, ◌++◌, Some, None, Option, ◌≢◌}
+use Rattle.std.specs.Prelude.{◌≡◌, ℕ, zero, suc, ◌+◌, ◌<◌, ◌≤◌, ◌↔◌, List, [], ◌∷◌, ◌++◌, Some, None, Option, ◌≢◌, ⊤}
 use Rattle.runs.specs.Machine.{Outcome, Next, Done, Failed, Machine}
 use Rattle.runs.specs.Over.{FirstOver}
 use Rattle.runs.specs.Runs.{Rest, after}
@@ -105,8 +105,8 @@ FinishedAtTheCount S F R =
 abbrev pub Ended : {F : Type 0} → Standing F → Type 0
 Ended Resting = ⊥
 Ended Waiting = ⊥
-Ended Finished = Unit {0}
-Ended (Fallen f) = Unit {0}
+Ended Finished = ⊤
+Ended (Fallen f) = ⊤
 
 -- a walk that is finished or fell stays as it is
 abbrev pub EndedStays : (S F R : Type 0) → Type 0

@@ -1,5 +1,5 @@
 -- A machine that counts down, reports 2 and fails at 7, and what its runs and walks come to. Here the definitions can be seen at work.
-use Rattle.std.specs.Prelude.{◌≡◌, ℕ, ◌-◌, cond, List, [], ◌∷◌, Some, None, Option, ◌==◌, nat_lt}
+use Rattle.std.specs.Prelude.{◌≡◌, ℕ, ◌-◌, if◌then◌else◌, List, [], ◌∷◌, Some, None, Option, ◌==◌, nat_lt}
 use Rattle.runs.specs.Counting.{counting}
 use Rattle.runs.specs.Guards.{guarded, limited}
 use Rattle.runs.specs.Machine.{Next, Done, Failed, Machine}
@@ -13,17 +13,17 @@ pub data Fault : Type 0 where
 abbrev pub countdown : Machine ℕ Fault ℕ
 countdown =
     record {
-      next = λ s. cond (s == 0) Done (cond (s == 7) (Failed Unlucky) (Next (s - 1)));
-      report = λ s. cond (s == 2) (Some s) None;
+      next = λ s. if s == 0 then Done else if s == 7 then Failed Unlucky else Next (s - 1);
+      report = λ s. if s == 2 then Some s else None;
     }
 
 -- stops at a state below 2
 abbrev pub low : ℕ → Option Fault
-low s = cond (nat_lt s 2) (Some Stopped) None
+low s = if nat_lt s 2 then Some Stopped else None
 
 -- stops at the third step
 abbrev pub third : ℕ × ℕ → Option Fault
-third p = cond (p.1 == 2) (Some Stopped) None
+third p = if p.1 == 2 then Some Stopped else None
 
 abbrev pub calls : List (Call Fault) → Walk ℕ Fault ℕ
 calls list = performed countdown list (opened countdown 4)

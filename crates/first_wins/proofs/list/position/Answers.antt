@@ -1,21 +1,23 @@
-use Rattle.std.proofs.Common.{◌≡◌, false, sym, subst, rules}
-use Rattle.std.proofs.ByRecursion.{All-get_or}
-use Rattle.std.proofs.lemmas.List.{take_all}
-use Rattle.first_wins.specs.Keys.{known}
-use Rattle.first_wins.proofs.Known.{known_more}
+use Rattle.std.proofs.Common.{rules, ◌≡◌, true, false, sym, subst}
+use Rattle.std.proofs.lemmas.Iterator.{YieldsList-from_slice, IsFirst-from_position}
+use Rattle.std.proofs.lemmas.Iterator.Adapters.{serves_from_places}
+use Rattle.first_wins.proofs.Known.{first_at}
 use Rattle.first_wins.proofs.list.position.Goals as goal
 
-pub same_key-requires : goal.same_key-requires
-same_key-requires g c =
+-- each entry that the search comes to is one of the list, so that the context admits it
+pub position-requires-clause-callable : goal.position-requires-clause-callable
+position-requires-clause-callable g c =
     let admits = g.K.Keys.admits c.args.keys.now in
-    (subst admits (sym c.index-list-index.is) (All-get_or admits c.args.list.now _ _ c.loop-index-test.true c.requires.held), c.requires.asked)
+    serves_from_places (YieldsList-from_slice c.args.list.now c.iter.ensures.rest)
+    (λ x q k. search rules)
+    (λ x k inside here. let held = subst admits (sym here) (c.requires.held k x.now inside) in search rules)
 
-pub loop-index-preserved : goal.loop-index-preserved
-loop-index-preserved g c =
-    let same = g.K.Keys.same c.args.keys.now in
-    known_more same c.args.list.now c.args.sought.now _ _ c.loop-index-test.true c.index-list-index.is c.loop-index.invariant (cc)
-
+-- where the chain ends is where the first entry with the key stands
 pub returns : goal.returns
 returns g c =
-    let none = subst (λ xs. known (g.K.Keys.same c.args.keys.now) xs c.args.sought.now ≡ false) (take_all _ c.args.list.now c.loop-index-test.false) c.loop-index.invariant in
+    let same = g.K.Keys.same c.args.keys.now in
+    let sought = c.args.sought.now in
+    let first =
+    first_at same c.args.list.now sought c.position.result
+    (IsFirst-from_position _ _ _ (λ y. same y sought ≡ true) (λ y. same y sought ≡ false) c.position.ensures.ran (YieldsList-from_slice c.args.list.now c.iter.ensures.rest) (λ x q k. search rules) (λ x q k. search rules)) in
     search rules
