@@ -8,15 +8,11 @@ use unit_lines::line::UnitLine;
 
 fn run(rt: &HostRuntime) -> anyhow::Result<()> {
     let heap = rt.alloc();
-    let mut input = BufReader::new(heap, rt.stdin())?;
+    let input = BufReader::new(heap, rt.stdin())?;
     let mut output = BufWriter::new(heap, rt.stdout())?;
-    let mut line = Vec::new(heap);
     let mut unit = UnitLine::new(heap);
-    for _ in 0..u64::MAX {
-        line.clear();
-        if input.read_until(b'\n', &mut line)? == 0 {
-            break;
-        }
+    for line in input.split(heap, b'\n') {
+        let line = line?;
         let outcome = unit.outcome(line_text(&line))?;
         writeln!(output, "{outcome}")?;
     }

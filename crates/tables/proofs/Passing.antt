@@ -1,5 +1,5 @@
 -- What it says that nothing is refused, part by part.
-use Rattle.std.proofs.Common.{◌≡◌, ℕ, zero, suc, ◌<◌, ◌≤◌, Bool, true, false, not, eqb, ltb, leb, ◌⊎◌, ◌↔◌, is_some, Some, None, Option, refl, inl, inr, ⊎_elim, arith}
+use Rattle.std.proofs.Common.{◌≡◌, ℕ, zero, suc, ◌<◌, ◌≤◌, Bool, true, false, not, nat_eq, nat_lt, nat_le, ◌⊎◌, ◌↔◌, is_some, Some, None, Option, refl, inl, inr, ⊎_elim, arith}
 use Rattle.std.specs.Bool.{then_some}
 use Rattle.std.specs.Option.{option_map}
 use Rattle.std.proofs.lemmas.Bool.{ltb-false, leb-false, eqb-false, le-ltb, lt-leb, ne_eqb, cases_eq}
@@ -32,15 +32,15 @@ module _ {R : Type 0} where
   unless true x e = absurd (grind arith)
   unless false x e = refl
 
-  pub passes_le : (a b : ℕ) (x : R) → Passes (then_some (ltb a b) x) (b ≤ a)
-  passes_le a b x = (λ e. ltb-false a b (unless (ltb a b) x e), λ h. rw (le-ltb a b h))
+  pub passes_le : (a b : ℕ) (x : R) → Passes (then_some (nat_lt a b) x) (b ≤ a)
+  passes_le a b x = (λ e. ltb-false a b (unless (nat_lt a b) x e), λ h. rw (le-ltb a b h))
 
-  pub passes_lt : (a b : ℕ) (x : R) → Passes (then_some (leb a b) x) (b < a)
-  passes_lt a b x = (λ e. leb-false a b (unless (leb a b) x e), λ h. rw (lt-leb a b h))
+  pub passes_lt : (a b : ℕ) (x : R) → Passes (then_some (nat_le a b) x) (b < a)
+  passes_lt a b x = (λ e. leb-false a b (unless (nat_le a b) x e), λ h. rw (lt-leb a b h))
 
-  pub passes_some : (n : ℕ) (x : R) → Passes (then_some (eqb n 0) x) (0 < n)
+  pub passes_some : (n : ℕ) (x : R) → Passes (then_some (nat_eq n 0) x) (0 < n)
   passes_some n x = (
-    λ e. let ne : n ≡ 0 → ⊥ = eqb-false n 0 (unless (eqb n 0) x e) in omega (arith, ne),
+    λ e. let ne : n ≡ 0 → ⊥ = eqb-false n 0 (unless (nat_eq n 0) x e) in omega (arith, ne),
     λ h. let ne : n ≡ 0 → ⊥ = λ z. omega arith in rw (ne_eqb n 0 ne),
   )
 

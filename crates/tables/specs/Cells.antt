@@ -1,6 +1,6 @@
 -- A table is bytes, cut into rows of one width. A cell is four bytes of a row, the lowest first.
 -- The largest number that fits means that there is none.
-use Rattle.std.specs.Prelude.{ℕ, ◌+◌, ◌*◌, cond, List, take, drop, Some, None, Option, ◌==◌, slice_index}
+use Rattle.std.specs.Prelude.{ℕ, ◌+◌, ◌*◌, Bool, if◌then◌else◌, List, take, drop, Some, None, Option, ◌==◌, slice_index}
 
 abbrev pub row_of : List ℕ → ℕ → ℕ → List ℕ
 row_of table width row = take width (drop (row * width) table)
@@ -15,4 +15,8 @@ unfoldable pub cell : List ℕ → ℕ → ℕ
 cell row column = number_at row (4 * column)
 
 abbrev pub optional : ℕ → Option ℕ
-optional number = cond (number == 4294967295) None (Some number)
+optional number = if number == 4294967295 then None else Some number
+
+-- a flag is set where its cell is 1
+abbrev pub flag_at : List ℕ → ℕ → Bool
+flag_at row column = cell row column == 1

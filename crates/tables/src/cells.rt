@@ -22,6 +22,7 @@ fn number_at(bytes: &[u8], at: usize) -> u32
     u32::from_le_bytes([bytes[at], bytes[at + 1], bytes[at + 2], bytes[at + 3]])
 }
 
+#[tactic(auto, unfolding(crate::specs::Cells::cell))]
 pub fn cell(row: &[u8], column: usize) -> u32
     requires { 4 * column + 4 ≤ length row.now }
     ensures { result ≡ cell row.now column }
@@ -29,6 +30,7 @@ pub fn cell(row: &[u8], column: usize) -> u32
     number_at(row, 4 * column)
 }
 
+// No `From`: most numbers of a row have no none.
 pub fn optional(number: u32) -> Option<u32>
     ensures { result ≡ optional number }
 {

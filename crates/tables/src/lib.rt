@@ -5,3 +5,4 @@
 
 pub mod cells;
 pub mod parts;
+pub mod row;

@@ -1,21 +1,19 @@
 -- Nothing of a unit is refused exactly when it is sound: rule by rule, row by row, table by table.
 use Rattle.std.proofs.Common.{◌≡◌, ℕ, ◌+◌, ◌%◌, ◌<◌, ◌≤◌, true, List, [], ◌∷◌, length, IfSome, Some, None, Option, arith}
-use Rattle.tables.specs.Cells.{cell}
+use Rattle.tables.specs.Cells.{cell, optional}
 use Rattle.tables.specs.First.{◌then◌, row_refusal}
 use Rattle.tables.specs.Parts.{part_of}
 use Rattle.tables.specs.declared.parts.Part.{Part}
 use Rattle.tables.proofs.Passing.{Passes, passes_then, passes_as, passes_always, passes_mapped, passes_le, passes_lt, passes_some, passes_first, none_from_not}
 use Rattle.unit.specs.Bytes.{Bytes, bytes_at, rows, row_at}
-use Rattle.unit.specs.Flaws.{number_flaw, optional_flaw, shape_flaw, part_flaw, empty_flaw, flag_flaw, kind_flaw, at}
+use Rattle.unit.specs.Flaws.{number_flaw, optional_flaw, part_flaw, empty_flaw, flag_flaw, kind_flaw, at}
 use Rattle.unit.specs.Format.{width, limit, columned, every_table}
-use Rattle.unit.specs.Inside.{IsRow, IsPart, ShapeInside, TerminalInside, OperandsInside, RootInside}
+use Rattle.unit.specs.Inside.{IsRow, IsPart, TerminalInside, OperandsInside, RootInside}
 use Rattle.unit.specs.Law.{AcceptedExactly}
-use Rattle.unit.specs.Rows.{shape_of, terminal_of, instruction_of, root_of}
+use Rattle.unit.specs.Rows.{terminal_of, instruction_of, root_of}
 use Rattle.unit.specs.Sound.{IsFlag, OptionalFlag, ReassignFlag, Sized, RowSound, RowsSound, Sound}
 use Rattle.unit.specs.Verdict.{terminal_flaw, operands_flaw, root_flaw, row_flaw, size_verdict, rows_verdict, first_of, verdict, passes}
 use Rattle.unit.specs.declared.refusal.Refusal.{Refusal}
-use Rattle.unit.specs.declared.rows.Shape.{Shape}
-use Rattle.unit.specs.declared.rows.Shape.TheVariants.{Absent, Named}
 use Rattle.unit.specs.declared.rows.Terminal.{Terminal}
 use Rattle.unit.specs.declared.rows.Terminal.TheVariants as terminal
 use Rattle.unit.specs.declared.rows.Instruction.{Instruction}
@@ -44,10 +42,6 @@ module _ (b : Bytes) where
   option : (of : Table) (n : Option ℕ) → Passes (optional_flaw b of n) (IfSome n (IsRow b of))
   option of None = passes_always
   option of (Some n) = number of n
-
-  shape : (s : Shape) → Passes (shape_flaw b s) (ShapeInside b s)
-  shape Absent = passes_always
-  shape (Named word) = number Words word
 
   root : (r : ManualMemoDependencyRoot) → Passes (root_flaw b r) (RootInside b r)
   root (NamedLocal identifier) = number Identifiers identifier
@@ -101,7 +95,7 @@ module _ (b : Bytes) where
   row_passes WordBytes row = passes_always
   row_passes Words row = part WordBytes (part_of row 0)
   row_passes Identifiers row =
-      passes_as (passes_then _ _ (flag (cell row 0)) (passes_then _ _ (flag (cell row 1)) (shape (shape_of (cell row 2)))))
+      passes_as (passes_then _ _ (flag (cell row 0)) (passes_then _ _ (flag (cell row 1)) (option Words (optional (cell row 2)))))
       (λ h. (h.0, h.1.0, h.1.1)) (λ h. (h.0, (h.1, h.2)))
   row_passes Places row = passes_then _ _ (number Identifiers (cell row 0)) (flag (cell row 2))
   row_passes Functions row = passes_then _ _ (part Places (part_of row 0)) (part Blocks (part_of row 2))

@@ -1,5 +1,5 @@
 -- A refusal tells of the first thing that is wrong, in the order of the tables' numbers and then of the rows.
-use Rattle.std.proofs.Common.{◌≡◌, ℕ, suc, ◌%◌, ◌<◌, ◌≤◌, ltb, List, [], ◌∷◌, length, get_or, IfSome, Some, None, Option, sym, refl, ap, ◌∙◌, ⊎_elim, arith}
+use Rattle.std.proofs.Common.{◌≡◌, ℕ, suc, ◌%◌, ◌<◌, ◌≤◌, nat_lt, List, [], ◌∷◌, length, slice_index_or, IfSome, Some, None, Option, sym, refl, ap, ◌∙◌, ⊎_elim, arith}
 use Rattle.std.proofs.lemmas.Bool.{cases_eq}
 use Rattle.tables.specs.First.{row_refusal}
 use Rattle.tables.proofs.Passing.{passes_mapped}
@@ -19,7 +19,7 @@ use Rattle.unit.specs.declared.table.Table.TheVariants.{WordBytes, Words, Identi
 use Rattle.unit.proofs.Exact.{size_passes, sizes_pass, row_passes, rows_pass}
 
 -- a table is known by its number
-by_number : (table : Table) → get_or every_table (number table) WordBytes ≡ table
+by_number : (table : Table) → slice_index_or every_table (number table) WordBytes ≡ table
 by_number WordBytes = refl
 by_number Words = refl
 by_number Identifiers = refl
@@ -32,7 +32,7 @@ by_number Declared = refl
 by_number Steps = refl
 
 same_table : (s t : Table) → number s ≡ number t → s ≡ t
-same_table s t e = sym (by_number s) ∙ ap (λ n. get_or every_table n WordBytes) e ∙ by_number t
+same_table s t e = sym (by_number s) ∙ ap (λ n. slice_index_or every_table n WordBytes) e ∙ by_number t
 
 -- tables whose numbers count up from k
 abbrev Counted : ℕ → List Table → Type 0
@@ -53,7 +53,7 @@ first_table f k (table ∷ tables) e c h go =
 module _ (b : Bytes) where
   size_told : (table : Table) (e : Refusal) → size_verdict b table ≡ Some e → Size table ≡ e
   size_told table e h =
-      either_some (ltb 0 (length (bytes_at b table) % width table)) (ltb (limit table) (rows b table)) (Size table) e h
+      either_some (nat_lt 0 (length (bytes_at b table) % width table)) (nat_lt (limit table) (rows b table)) (Size table) e h
 
   sizes_first : (e : Refusal) → first_of (size_verdict b) every_table ≡ Some e → ToldFirst b e
   sizes_first e h =

@@ -1,38 +1,35 @@
 -- What the tables of a unit hold: ten lists of bytes, and their rows.
 -- A row past the last has no bytes, and is asked of by nobody.
 use Rattle.std.specs.Prelude.{ℕ, ◌/◌, List, [], length}
+use Rattle.std.specs.Borrow.{Bor}
 use Rattle.tables.specs.Cells.{row_of}
 use Rattle.unit.specs.Format.{width}
 use Rattle.unit.specs.declared.table.Table.{Table}
 use Rattle.unit.specs.declared.table.Table.TheVariants.{WordBytes, Words, Identifiers, Places, Functions, Blocks, Phis, Instructions, Declared, Steps}
 use Rattle.unit.specs.declared.unit_tables.Tables.{Tables}
 
-pub record Bytes : Type 0 where
-  pub word_bytes : List ℕ
-  pub words : List ℕ
-  pub identifiers : List ℕ
-  pub places : List ℕ
-  pub functions : List ℕ
-  pub blocks : List ℕ
-  pub phis : List ℕ
-  pub instructions : List ℕ
-  pub declared : List ℕ
-  pub steps : List ℕ
+abbrev pub Bytes : Type 0
+Bytes = Tables (List ℕ)
 
-abbrev pub bytes_of : Tables → Bytes
-bytes_of t =
+-- the tables with f of each
+abbrev pub map_tables : {S T : Type 0} → (S → T) → Tables S → Tables T
+map_tables f t =
     record {
-      word_bytes = t.word_bytes.now;
-      words = t.words.now;
-      identifiers = t.identifiers.now;
-      places = t.places.now;
-      functions = t.functions.now;
-      blocks = t.blocks.now;
-      phis = t.phis.now;
-      instructions = t.instructions.now;
-      declared = t.declared.now;
-      steps = t.steps.now;
+      word_bytes = f t.word_bytes;
+      words = f t.words;
+      identifiers = f t.identifiers;
+      places = f t.places;
+      functions = f t.functions;
+      blocks = f t.blocks;
+      phis = f t.phis;
+      instructions = f t.instructions;
+      declared = f t.declared;
+      steps = f t.steps;
     }
+
+-- what lent tables hold
+abbrev pub bytes_of : Tables (Bor (List ℕ)) → Bytes
+bytes_of = map_tables (λ bytes. bytes.now)
 
 abbrev pub no_bytes : Bytes
 no_bytes =

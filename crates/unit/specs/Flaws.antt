@@ -9,10 +9,7 @@ use Rattle.unit.specs.declared.flaws.Flaw.{Flaw}
 use Rattle.unit.specs.declared.flaws.Flaw.TheVariants as flaw
 use Rattle.unit.specs.declared.refusal.Refusal.{Refusal}
 use Rattle.unit.specs.declared.refusal.Refusal.TheVariants as refusal
-use Rattle.unit.specs.declared.rows.Shape.{Shape}
-use Rattle.unit.specs.declared.rows.Shape.TheVariants.{Absent, Named}
 use Rattle.unit.specs.declared.table.Table.{Table}
-use Rattle.unit.specs.declared.table.Table.TheVariants.{Words}
 
 -- a number that is no row of the table `of`
 abbrev pub number_flaw : Bytes → Table → ℕ → Option Flaw
@@ -21,10 +18,6 @@ number_flaw b of number = then_some (nat_le (rows b of) number) flaw.Outside
 abbrev pub optional_flaw : Bytes → Table → Option ℕ → Option Flaw
 optional_flaw b of None = None
 optional_flaw b of (Some number) = number_flaw b of number
-
-abbrev pub shape_flaw : Bytes → Shape → Option Flaw
-shape_flaw b Absent = None
-shape_flaw b (Named word) = number_flaw b Words word
 
 abbrev pub part_flaw : Bytes → Table → Part → Option Flaw
 part_flaw b of part = then_some (nat_lt (rows b of) (part.first + part.count)) flaw.Outside

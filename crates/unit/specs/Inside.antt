@@ -4,8 +4,9 @@ use Rattle.std.specs.Prelude.{ℕ, ◌<◌, IfSome}
 use Rattle.tables.specs.Parts.{PartInside}
 use Rattle.tables.specs.declared.parts.Part.{Part}
 use Rattle.unit.specs.Bytes.{Bytes, rows}
-use Rattle.unit.specs.declared.rows.Shape.{Shape}
-use Rattle.unit.specs.declared.rows.Shape.TheVariants.{Absent, Named}
+use Rattle.unit.specs.declared.rows.Word.{Word}
+use Rattle.unit.specs.declared.rows.Identifier.{Identifier}
+use Rattle.unit.specs.declared.rows.Place.{Place}
 use Rattle.unit.specs.declared.rows.Function.{Function}
 use Rattle.unit.specs.declared.rows.BasicBlock.{BasicBlock}
 use Rattle.unit.specs.declared.rows.Terminal.{Terminal}
@@ -17,8 +18,9 @@ use Rattle.unit.specs.declared.rows.Instruction.TheVariants as instruction
 use Rattle.unit.specs.declared.rows.ManualMemoDependencyRoot.{ManualMemoDependencyRoot}
 use Rattle.unit.specs.declared.rows.ManualMemoDependencyRoot.TheVariants.{NamedLocal, Global}
 use Rattle.unit.specs.declared.rows.ManualMemoDependency.{ManualMemoDependency}
+use Rattle.unit.specs.declared.rows.Step.{Step}
 use Rattle.unit.specs.declared.table.Table.{Table}
-use Rattle.unit.specs.declared.table.Table.TheVariants.{Words, Identifiers, Places, Functions, Blocks, Phis, Instructions, Declared, Steps}
+use Rattle.unit.specs.declared.table.Table.TheVariants.{WordBytes, Words, Identifiers, Places, Functions, Blocks, Phis, Instructions, Declared, Steps}
 
 abbrev pub IsRow : Bytes → Table → ℕ → Type 0
 IsRow b table number = number < rows b table
@@ -26,9 +28,14 @@ IsRow b table number = number < rows b table
 abbrev pub IsPart : Bytes → Table → Part → Type 0
 IsPart b table part = PartInside (rows b table) part
 
-abbrev pub ShapeInside : Bytes → Shape → Type 0
-ShapeInside b Absent = Unit {0}
-ShapeInside b (Named word) = IsRow b Words word
+abbrev pub WordInside : Bytes → Word → Type 0
+WordInside b word = IsPart b WordBytes word.bytes
+
+abbrev pub IdentifierInside : Bytes → Identifier → Type 0
+IdentifierInside b identifier = IfSome identifier.shape (IsRow b Words)
+
+abbrev pub PlaceInside : Bytes → Place → Type 0
+PlaceInside b place = IsRow b Identifiers place.identifier
 
 abbrev pub FunctionInside : Bytes → Function → Type 0
 FunctionInside b f = IsPart b Places f.params × IsPart b Blocks f.blocks
@@ -78,3 +85,6 @@ RootInside b (Global name) = IsRow b Words name
 
 abbrev pub DeclaredInside : Bytes → ManualMemoDependency → Type 0
 DeclaredInside b dependency = RootInside b dependency.root × IsPart b Steps dependency.path
+
+abbrev pub StepInside : Bytes → Step → Type 0
+StepInside b step = IsRow b Words step.property

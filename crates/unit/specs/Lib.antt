@@ -8,3 +8,4 @@ pub mod Sound
 pub mod Law
 pub mod Held
 pub mod Told
+pub mod Checks

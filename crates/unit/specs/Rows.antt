@@ -1,10 +1,9 @@
 -- What a row of each table says, by its cells. An unknown kind reads as the last one and a flag over 1 as
 -- false; the check refuses both, so that nothing is read of them.
-use Rattle.std.specs.Prelude.{ℕ, Bool, cond, List, take, drop, ◌==◌}
-use Rattle.tables.specs.Cells.{cell, optional}
+use Rattle.std.specs.Prelude.{ℕ, if◌then◌else◌, List, take, drop, ◌==◌}
+use Rattle.tables.specs.Cells.{cell, flag_at, optional}
 use Rattle.tables.specs.Parts.{part_of}
-use Rattle.unit.specs.declared.rows.Shape.{Shape}
-use Rattle.unit.specs.declared.rows.Shape.TheVariants.{Absent, Named}
+use Rattle.unit.specs.declared.rows.Word.{Word}
 use Rattle.unit.specs.declared.rows.Identifier.{Identifier}
 use Rattle.unit.specs.declared.rows.Place.{Place}
 use Rattle.unit.specs.declared.rows.Function.{Function}
@@ -24,15 +23,11 @@ use Rattle.unit.specs.declared.rows.Step.{Step}
 abbrev pub word_of : List ℕ → List ℕ → List ℕ
 word_of word_bytes row = take (cell row 1) (drop (cell row 0) word_bytes)
 
-abbrev pub flag_at : List ℕ → ℕ → Bool
-flag_at row column = cell row column == 1
-
--- the one place that says what the shape column means
-abbrev pub shape_of : ℕ → Shape
-shape_of shape = cond (shape == 4294967295) Absent (Named shape)
+abbrev pub word_row_of : List ℕ → Word
+word_row_of row = record { bytes = part_of row 0 }
 
 abbrev pub identifier_of : List ℕ → Identifier
-identifier_of row = record { named = flag_at row 0; use_ref = flag_at row 1; shape = shape_of (cell row 2) }
+identifier_of row = record { named = flag_at row 0; use_ref = flag_at row 1; shape = optional (cell row 2) }
 
 abbrev pub place_of : List ℕ → Place
 place_of row = record { identifier = cell row 0; span = optional (cell row 1); spread = flag_at row 2 }
@@ -42,12 +37,12 @@ function_of row = record { params = part_of row 0; blocks = part_of row 2 }
 
 abbrev pub terminal_of : List ℕ → Terminal
 terminal_of row =
-    cond (cell row 4 == 1) (terminal.Branch (cell row 5) (cell row 6) (cell row 7))
-    (cond (cell row 4 == 2) (terminal.Optional (flag_at row 5) (cell row 6) (cell row 7))
-    (cond (cell row 4 == 3) (terminal.LogicalOrTernary (cell row 6))
-    (cond (cell row 4 == 4) (terminal.Sequence (cell row 6))
-    (cond (cell row 4 == 5) (terminal.MaybeThrow (cell row 6))
-    terminal.Other))))
+    if cell row 4 == 1 then terminal.Branch (cell row 5) (cell row 6) (cell row 7)
+    else if cell row 4 == 2 then terminal.Optional (flag_at row 5) (cell row 6) (cell row 7)
+    else if cell row 4 == 3 then terminal.LogicalOrTernary (cell row 6)
+    else if cell row 4 == 4 then terminal.Sequence (cell row 6)
+    else if cell row 4 == 5 then terminal.MaybeThrow (cell row 6)
+    else terminal.Other
 
 abbrev pub block_of : List ℕ → BasicBlock
 block_of row =
@@ -59,28 +54,28 @@ phi_of row = record { identifier = cell row 0; operands = part_of row 1 }
 -- the columns are the kind, the result, the span, a, b, c, and a part
 abbrev pub instruction_of : List ℕ → Instruction
 instruction_of row =
-    cond (cell row 0 == 1) (instruction.LoadGlobal (cell row 3) (cell row 4))
-    (cond (cell row 0 == 2) (instruction.LoadLocal (cell row 3))
-    (cond (cell row 0 == 3) (instruction.DeclareLocal (cell row 3))
-    (cond (cell row 0 == 4) (instruction.DeclareContext (cell row 3))
-    (cond (cell row 0 == 5) (instruction.StoreLocal (cell row 3) (cell row 4) (flag_at row 5))
-    (cond (cell row 0 == 6) (instruction.StoreContext (cell row 3) (cell row 4) (flag_at row 5))
-    (cond (cell row 0 == 7) (instruction.Destructure (cell row 4) (flag_at row 5) (part_of row 6))
-    (cond (cell row 0 == 8) (instruction.PropertyLoad (cell row 3) (optional (cell row 4)))
-    (cond (cell row 0 == 9) (instruction.FunctionExpression (cell row 3))
-    (cond (cell row 0 == 10) (instruction.StartMemoize (cell row 3) (optional (cell row 5)) (part_of row 6))
-    (cond (cell row 0 == 11) (instruction.FinishMemoize (cell row 3) (cell row 4))
-    (cond (cell row 0 == 12) (instruction.ArrayExpression (part_of row 6))
-    (cond (cell row 0 == 13) (instruction.CallExpression (cell row 3) (part_of row 6))
-    (cond (cell row 0 == 14) (instruction.MethodCall (cell row 3) (part_of row 6))
-    (instruction.Other (part_of row 4) (part_of row 6)))))))))))))))
+    if cell row 0 == 1 then instruction.LoadGlobal (cell row 3) (cell row 4)
+    else if cell row 0 == 2 then instruction.LoadLocal (cell row 3)
+    else if cell row 0 == 3 then instruction.DeclareLocal (cell row 3)
+    else if cell row 0 == 4 then instruction.DeclareContext (cell row 3)
+    else if cell row 0 == 5 then instruction.StoreLocal (cell row 3) (cell row 4) (flag_at row 5)
+    else if cell row 0 == 6 then instruction.StoreContext (cell row 3) (cell row 4) (flag_at row 5)
+    else if cell row 0 == 7 then instruction.Destructure (cell row 4) (flag_at row 5) (part_of row 6)
+    else if cell row 0 == 8 then instruction.PropertyLoad (cell row 3) (optional (cell row 4))
+    else if cell row 0 == 9 then instruction.FunctionExpression (cell row 3)
+    else if cell row 0 == 10 then instruction.StartMemoize (cell row 3) (optional (cell row 5)) (part_of row 6)
+    else if cell row 0 == 11 then instruction.FinishMemoize (cell row 3) (cell row 4)
+    else if cell row 0 == 12 then instruction.ArrayExpression (part_of row 6)
+    else if cell row 0 == 13 then instruction.CallExpression (cell row 3) (part_of row 6)
+    else if cell row 0 == 14 then instruction.MethodCall (cell row 3) (part_of row 6)
+    else instruction.Other (part_of row 4) (part_of row 6)
 
 abbrev pub instruction_row_of : List ℕ → InstructionRow
 instruction_row_of row =
     record { result = cell row 1; span = optional (cell row 2); instruction = instruction_of row }
 
 abbrev pub root_of : List ℕ → ManualMemoDependencyRoot
-root_of row = cond (flag_at row 0) (Global (cell row 1)) (NamedLocal (cell row 1))
+root_of row = if flag_at row 0 then Global (cell row 1) else NamedLocal (cell row 1)
 
 abbrev pub declared_of : List ℕ → ManualMemoDependency
 declared_of row = record { root = root_of row; path = part_of row 2 }

@@ -2,11 +2,10 @@
 -- kind known, and what the row says inside the tables.
 use Rattle.std.specs.Prelude.{◌≡◌, ℕ, ◌%◌, ◌<◌, ◌≤◌, List, length}
 use Rattle.tables.specs.Cells.{cell}
-use Rattle.tables.specs.Parts.{part_of}
 use Rattle.unit.specs.Bytes.{Bytes, bytes_at, rows, row_at}
 use Rattle.unit.specs.Format.{width, limit}
-use Rattle.unit.specs.Inside.{IsRow, IsPart, ShapeInside, FunctionInside, BlockInside, PhiInside, InstructionInside, DeclaredInside}
-use Rattle.unit.specs.Rows.{identifier_of, place_of, function_of, terminal_of, block_of, phi_of, instruction_of, instruction_row_of, declared_of, step_of}
+use Rattle.unit.specs.Inside.{WordInside, IdentifierInside, PlaceInside, FunctionInside, BlockInside, PhiInside, InstructionInside, DeclaredInside, StepInside}
+use Rattle.unit.specs.Rows.{word_row_of, identifier_of, place_of, function_of, terminal_of, block_of, phi_of, instruction_of, instruction_row_of, declared_of, step_of}
 use Rattle.unit.specs.declared.rows.Terminal.{Terminal}
 use Rattle.unit.specs.declared.rows.Terminal.TheVariants as terminal
 use Rattle.unit.specs.declared.rows.Instruction.{Instruction}
@@ -46,16 +45,16 @@ ReassignFlag (instruction.Other lvalues operands) c = Unit {0}
 
 abbrev pub RowSound : Bytes → Table → List ℕ → Type 0
 RowSound b WordBytes row = Unit {0}
-RowSound b Words row = IsPart b WordBytes (part_of row 0)
-RowSound b Identifiers row = IsFlag (cell row 0) × IsFlag (cell row 1) × ShapeInside b (identifier_of row).shape
-RowSound b Places row = IsRow b Identifiers (place_of row).identifier × IsFlag (cell row 2)
+RowSound b Words row = WordInside b (word_row_of row)
+RowSound b Identifiers row = IsFlag (cell row 0) × IsFlag (cell row 1) × IdentifierInside b (identifier_of row)
+RowSound b Places row = PlaceInside b (place_of row) × IsFlag (cell row 2)
 RowSound b Functions row = FunctionInside b (function_of row)
 RowSound b Blocks row = (cell row 4 ≤ 5) × OptionalFlag (terminal_of row) (cell row 5) × BlockInside b (block_of row)
 RowSound b Phis row = PhiInside b (phi_of row)
 RowSound b Instructions row =
     (1 ≤ cell row 0) × (cell row 0 ≤ 15) × ReassignFlag (instruction_of row) (cell row 5) × InstructionInside b (instruction_row_of row)
 RowSound b Declared row = IsFlag (cell row 0) × DeclaredInside b (declared_of row)
-RowSound b Steps row = IsRow b Words (step_of row).property × IsFlag (cell row 1)
+RowSound b Steps row = StepInside b (step_of row) × IsFlag (cell row 1)
 
 -- whole rows, and not too many
 abbrev pub Sized : Bytes → Table → Type 0

@@ -2,13 +2,13 @@
 -- by number, each row by row, and each row column by column.
 use Rattle.std.specs.Prelude.{ℕ, ◌%◌, Bool, not, List, [], ◌∷◌, length, is_some, None, Option, nat_lt}
 use Rattle.std.specs.Bool.{then_some}
-use Rattle.tables.specs.Cells.{cell}
+use Rattle.tables.specs.Cells.{cell, optional}
 use Rattle.tables.specs.First.{◌then◌, first_row}
 use Rattle.tables.specs.Parts.{part_of}
 use Rattle.unit.specs.Bytes.{Bytes, bytes_at, rows}
-use Rattle.unit.specs.Flaws.{number_flaw, optional_flaw, shape_flaw, part_flaw, empty_flaw, flag_flaw, kind_flaw, at}
+use Rattle.unit.specs.Flaws.{number_flaw, optional_flaw, part_flaw, empty_flaw, flag_flaw, kind_flaw, at}
 use Rattle.unit.specs.Format.{width, limit, columned, every_table}
-use Rattle.unit.specs.Rows.{shape_of, terminal_of, instruction_of, root_of}
+use Rattle.unit.specs.Rows.{terminal_of, instruction_of, root_of}
 use Rattle.unit.specs.declared.flaws.Flaw.{Flaw}
 use Rattle.unit.specs.declared.refusal.Refusal.{Refusal}
 use Rattle.unit.specs.declared.refusal.Refusal.TheVariants.{Size}
@@ -62,7 +62,7 @@ root_flaw b (Global name) = number_flaw b Words name
 abbrev pub row_flaw : Bytes → Table → List ℕ → Option Flaw
 row_flaw b WordBytes row = None
 row_flaw b Words row = part_flaw b WordBytes (part_of row 0)
-row_flaw b Identifiers row = flag_flaw (cell row 0) then flag_flaw (cell row 1) then shape_flaw b (shape_of (cell row 2))
+row_flaw b Identifiers row = flag_flaw (cell row 0) then flag_flaw (cell row 1) then optional_flaw b Words (optional (cell row 2))
 row_flaw b Places row = number_flaw b Identifiers (cell row 0) then flag_flaw (cell row 2)
 row_flaw b Functions row = part_flaw b Places (part_of row 0) then part_flaw b Blocks (part_of row 2)
 row_flaw b Blocks row =

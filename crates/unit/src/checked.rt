@@ -5,8 +5,9 @@ ghost use Rattle.unit.specs.Verdict.{passes};
 
 use crate::unit_tables::Tables;
 
+// A ghost field and no model: what is `Copy` and has a lifetime can't have one.
 #[derive(Clone, Copy)]
 pub struct CheckedUnit<'a> {
-    pub(crate) tables: Tables<'a>,
+    pub(crate) tables: Tables<&'a [u8]>,
     ghost sound: { passes (bytes_of tables) ≡ true },
 }

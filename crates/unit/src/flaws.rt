@@ -3,10 +3,9 @@ ghost use Rattle.std.specs.Prelude.{◌≡◌};
 ghost use Rattle.std.specs.Bool.{then_some};
 ghost use Rattle.std.specs.Result.{result_err};
 ghost use Rattle.unit.specs.Bytes.{bytes_of};
-ghost use Rattle.unit.specs.Flaws.{number_flaw, part_flaw, optional_flaw, shape_flaw, flag_flaw, kind_flaw, empty_flaw, at};
+ghost use Rattle.unit.specs.Flaws.{number_flaw, part_flaw, optional_flaw, flag_flaw, kind_flaw, empty_flaw, at};
 
 use crate::refusal::Refusal;
-use crate::rows::Shape;
 use crate::table::Table;
 use crate::unit_tables::Tables;
 use tables::parts::Part;
@@ -19,6 +18,7 @@ pub(crate) enum Flaw {
 }
 
 impl Flaw {
+    // No `From`: where it stands is the caller's to say.
     pub(crate) fn at(self, table: Table, row: usize) -> Refusal
         ensures { result ≡ at table row self }
     {
@@ -35,36 +35,29 @@ fn flaw_if(bad: bool, flaw: Flaw) -> Result<(), Flaw>
     if bad { Err(flaw) } else { Ok(()) }
 }
 
-pub(crate) fn check_number(tables: &Tables, of: Table, number: u32) -> Result<(), Flaw>
-    ensures { result_err result ≡ number_flaw (bytes_of tables.now) of number }
-{
-    flaw_if(tables.rows(of) <= number as usize, Flaw::Outside)
-}
-
-pub(crate) fn check_optional(tables: &Tables, of: Table, number: Option<u32>) -> Result<(), Flaw>
-    ensures { result_err result ≡ optional_flaw (bytes_of tables.now) of number }
-{
-    match number {
-        Some(number) => check_number(tables, of, number),
-        None => Ok(()),
+impl Tables<&[u8]> {
+    pub(crate) fn check_number(&self, of: Table, number: u32) -> Result<(), Flaw>
+        ensures { result_err result ≡ number_flaw (bytes_of self.now) of number }
+    {
+        flaw_if(self.rows(of) <= number as usize, Flaw::Outside)
     }
-}
 
-pub(crate) fn check_shape(tables: &Tables, shape: Shape) -> Result<(), Flaw>
-    ensures { result_err result ≡ shape_flaw (bytes_of tables.now) shape }
-{
-    match shape {
-        Shape::Absent => Ok(()),
-        Shape::Named(word) => check_number(tables, Table::Words, word),
+    pub(crate) fn check_optional(&self, of: Table, number: Option<u32>) -> Result<(), Flaw>
+        ensures { result_err result ≡ optional_flaw (bytes_of self.now) of number }
+    {
+        match number {
+            Some(number) => self.check_number(of, number),
+            None => Ok(()),
+        }
     }
-}
 
-// The sum is taken in 64 bits, so that it can't wrap.
-pub(crate) fn check_part(tables: &Tables, of: Table, part: Part) -> Result<(), Flaw>
-    ensures { result_err result ≡ part_flaw (bytes_of tables.now) of part }
-{
-    let end = part.first as usize + part.count as usize;
-    flaw_if(tables.rows(of) < end, Flaw::Outside)
+    // The sum is taken in 64 bits, so that it can't wrap.
+    pub(crate) fn check_part(&self, of: Table, part: Part) -> Result<(), Flaw>
+        ensures { result_err result ≡ part_flaw (bytes_of self.now) of part }
+    {
+        let end = part.first as usize + part.count as usize;
+        flaw_if(self.rows(of) < end, Flaw::Outside)
+    }
 }
 
 pub(crate) fn check_filled(part: Part) -> Result<(), Flaw>
@@ -79,6 +72,7 @@ pub(crate) fn check_flag(flag: u32) -> Result<(), Flaw>
     flaw_if(flag > 1, Flaw::Unknown)
 }
 
+// Two numbers, and no `RangeInclusive`: one that was gone through contains nothing, so that a kind could be refused for it.
 pub(crate) fn check_kind(least: u32, most: u32, kind: u32) -> Result<(), Flaw>
     ensures { result_err result ≡ kind_flaw least most kind }
 {

@@ -6,9 +6,9 @@
 
 pub mod check;
 pub mod checked;
-mod decoding;
 mod flaws;
 mod readers;
+pub mod records;
 pub mod refusal;
 pub mod rows;
 pub mod table;

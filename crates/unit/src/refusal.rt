@@ -21,17 +21,12 @@ impl fmt::Display for Refusal {
 
     fn fmt<W: fmt::Write>(&self, f: &mut fmt::Formatter<W>) -> fmt::Result {
         match *self {
-            Refusal::Size { table } => {
-                let table = table.number();
-                write!(f, "refused 1, table {table}")
-            }
+            Refusal::Size { table } => write!(f, "refused 1, table {}", table.number()),
             Refusal::Outside { table, row } => {
-                let table = table.number();
-                write!(f, "refused 2, table {table}, row {row}")
+                write!(f, "refused 2, table {}, row {row}", table.number())
             }
             Refusal::Unknown { table, row } => {
-                let table = table.number();
-                write!(f, "refused 3, table {table}, row {row}")
+                write!(f, "refused 3, table {}, row {row}", table.number())
             }
         }
     }

@@ -1,19 +1,19 @@
 // What a row of each table says. Numbers are rows of other tables; a block's number counts within its function.
+// They stay numbers, and no references or boxes: the tables are lent as the host wrote them, and nothing is built of them on a heap.
 use tables::parts::Part;
 
-// The shape of an identifier's function type.
+// A part of the word bytes.
 #[derive(Clone, Copy)]
-pub enum Shape {
-    Absent,
-    // The word of its `shape_id`.
-    Named(u32),
+pub struct Word {
+    pub bytes: Part,
 }
 
+// The shape is the word of the `shape_id` of the identifier's function type.
 #[derive(Clone, Copy)]
 pub struct Identifier {
     pub named: bool,
     pub use_ref: bool,
-    pub shape: Shape,
+    pub shape: Option<u32>,
 }
 
 // The span is the host's own number, only carried.

@@ -18,6 +18,21 @@ pub enum Table {
 }
 
 impl Table {
+    // In the order of their numbers.
+    pub(crate) const ALL: [Table; 10] = [
+        Table::WordBytes,
+        Table::Words,
+        Table::Identifiers,
+        Table::Places,
+        Table::Functions,
+        Table::Blocks,
+        Table::Phis,
+        Table::Instructions,
+        Table::Declared,
+        Table::Steps,
+    ];
+
+    // The number is only told, in a refusal; nothing is decided by it.
     pub(crate) fn number(self) -> u8
         ensures { result ≡ number self }
     {

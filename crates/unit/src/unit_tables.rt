@@ -1,24 +1,25 @@
-// The tables of a unit, as bytes that someone else holds.
+// The ten tables of a unit: slices that someone lends, vectors that someone fills, or, in specs/, the bytes that they hold.
 ghost use Rattle.std.specs.Prelude.{◌≡◌};
 ghost use Rattle.unit.specs.Bytes.{bytes_of, bytes_at, rows};
 
 use crate::table::Table;
 
-#[derive(Clone, Copy)]
-pub struct Tables<'a> {
-    pub word_bytes: &'a [u8],
-    pub words: &'a [u8],
-    pub identifiers: &'a [u8],
-    pub places: &'a [u8],
-    pub functions: &'a [u8],
-    pub blocks: &'a [u8],
-    pub phis: &'a [u8],
-    pub instructions: &'a [u8],
-    pub declared: &'a [u8],
-    pub steps: &'a [u8],
+// No model: it is `Copy`, whatever `T` is, and its fields are its caller's to fill.
+#[derive(Clone, Copy, Drop)]
+pub struct Tables<T> {
+    pub word_bytes: T,
+    pub words: T,
+    pub identifiers: T,
+    pub places: T,
+    pub functions: T,
+    pub blocks: T,
+    pub phis: T,
+    pub instructions: T,
+    pub declared: T,
+    pub steps: T,
 }
 
-impl<'a> Tables<'a> {
+impl<'a> Tables<&'a [u8]> {
     pub(crate) fn bytes(&self, table: Table) -> &'a [u8]
         ensures { result.now ≡ bytes_at (bytes_of self.now) table }
     {

@@ -1,3 +1,4 @@
+pub mod Endings
 pub mod Pairs
 pub mod Cuts
 pub mod OwnLine

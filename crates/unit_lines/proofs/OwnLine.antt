@@ -1,13 +1,14 @@
 -- A line stands for a unit exactly when it is the unit's own line: digit by digit, byte by byte, field by field.
-use Rattle.std.proofs.Common.{◌≡◌, ℕ, ◌+◌, ◌*◌, ◌/◌, ◌%◌, ◌<◌, Bool, true, false, cond, eqb, List, [], ◌∷◌, ◌++◌, Some, None, Option, refl, ap, ◌∙◌, arith}
+use Rattle.std.proofs.Common.{◌≡◌, ℕ, ◌+◌, ◌*◌, ◌/◌, ◌%◌, ◌<◌, ◌==◌, false, List, [], ◌∷◌, ◌++◌, Some, None, Option, refl, ap, ◌∙◌, arith}
+use Rattle.std.specs.List.{AllByRecursion}
 use Rattle.std.specs.Option.{option_map}
-use Rattle.std.proofs.lemmas.Bool.{eqb-true}
 use Rattle.std.proofs.lemmas.Bool.Decides.{nat_tests}
+use Rattle.std.proofs.lemmas.List.Elements.{All-nil, All-cons, All-head, All-tail}
 use Rattle.unit.specs.Bytes.{Bytes}
 use Rattle.unit_lines.specs.Hexadecimal.{digit_of, byte_of_digits, byte_of, byte_before, hex_bytes}
-use Rattle.unit_lines.specs.Fields.{longer, cut, field_bytes, with_rest, field_then}
+use Rattle.unit_lines.specs.Fields.{cut, field_bytes, with_rest, field_then}
 use Rattle.unit_lines.specs.Line.{on_field, line_tables}
-use Rattle.unit_lines.specs.Written.{digit_text, hex_text, field_text, field_before, line_of, OfBytes, TablesOfBytes, ReadsItsOwnLine}
+use Rattle.unit_lines.specs.Written.{digit_text, byte_text, hex_text, field_text, line_of, OfBytes, TablesOfBytes, ReadsItsOwnLine}
 
 digit_back : (d : ℕ) → d < 16 → digit_of (digit_text d) ≡ Some d
 digit_back d l = grind (arith, nat_tests)
@@ -18,38 +19,39 @@ digit_forth c d e = (grind (arith, nat_tests), grind (arith, nat_tests))
 digits_of : (a b : ℕ) → b < 16 → ((16 * a + b) / 16 ≡ a) × ((16 * a + b) % 16 ≡ b)
 digits_of a b l = (omega arith, omega arith)
 
-digit_no_space : (d : ℕ) → eqb (digit_text d) 32 ≡ false
+digit_no_space : (d : ℕ) → (digit_text d == 32) ≡ false
 digit_no_space d = grind (arith, nat_tests)
 
-byte_back : (x : ℕ) → x < 256 → byte_of (digit_text (x / 16) ∷ digit_text (x % 16) ∷ []) ≡ Some x
+byte_back : (x : ℕ) → x < 256 → byte_of (byte_text x) ≡ Some x
 byte_back x l =
     let high : x / 16 < 16 = omega arith in
     let low : x % 16 < 16 = omega arith in
     let whole : 16 * (x / 16) + x % 16 ≡ x = omega arith in
     rw (digit_back (x / 16) high, digit_back (x % 16) low, whole)
 
-abbrev ByteText : ℕ → ℕ → ℕ → Type 0
-ByteText h l x = (h ≡ digit_text (x / 16)) × (l ≡ digit_text (x % 16)) × (x < 256)
-
-byte_forth : (h l x : ℕ) → byte_of (h ∷ l ∷ []) ≡ Some x → ByteText h l x
-byte_forth h l x e = by (digit_of h) (digit_of l) refl refl e
+byte_forth : (h l x : ℕ) → byte_of (h ∷ l ∷ []) ≡ Some x → (h ∷ l ∷ [] ≡ byte_text x) × (x < 256)
+byte_forth h l x e = by (digit_of h) (digit_of l) (digit_forth h) (digit_forth l) e
   where
-    by : (a b : Option ℕ) → digit_of h ≡ a → digit_of l ≡ b → byte_of_digits a b ≡ Some x → ByteText h l x
+    by : (a b : Option ℕ) → ((d : ℕ) → a ≡ Some d → (h ≡ digit_text d) × (d < 16)) → ((d : ℕ) → b ≡ Some d → (l ≡ digit_text d) × (d < 16))
+        → byte_of_digits a b ≡ Some x → (h ∷ l ∷ [] ≡ byte_text x) × (x < 256)
     by None b p q r = absurd (grind arith)
     by (Some a) None p q r = absurd (grind arith)
     by (Some a) (Some b) p q r =
-        let high = digit_forth h a p in
-        let low = digit_forth l b q in
+        let high = p a refl in
+        let low = q b refl in
         let is : x ≡ 16 * a + b = cc in
         let parts = digits_of a b low.1 in
-        (rw (is, parts.0) high.0, rw (is, parts.1) low.0, omega (arith, high.1, low.1))
+        (rw (is, parts.0, parts.1, high.0, low.0), omega arith)
+
+abbrev IsByte : ℕ → Type 0
+IsByte x = x < 256
 
 hex_back : (xs : List ℕ) → OfBytes xs → hex_bytes (hex_text xs) ≡ Some xs
 hex_back [] h = refl
-hex_back (x ∷ xs) h = rw (byte_back x h.0, hex_back xs h.1)
+hex_back (x ∷ xs) h = rw (byte_back x (All-head IsByte x xs h), hex_back xs (All-tail IsByte x xs h))
 
 hex_forth : (t xs : List ℕ) → hex_bytes t ≡ Some xs → (t ≡ hex_text xs) × OfBytes xs
-hex_forth [] xs e = let none : xs ≡ [] = cc in rw none (refl, tt)
+hex_forth [] xs e = let none : xs ≡ [] = cc in rw none (refl, All-nil IsByte)
 hex_forth (c ∷ []) xs e = absurd (grind arith)
 hex_forth (h ∷ l ∷ t) xs e = by (byte_of (h ∷ l ∷ [])) (hex_bytes t) refl (hex_forth t) e
   where
@@ -62,29 +64,24 @@ hex_forth (h ∷ l ∷ t) xs e = by (byte_of (h ∷ l ∷ [])) (hex_bytes t) ref
         let is : xs ≡ x ∷ ys = cc in
         let first = byte_forth h l x p in
         let rest = r ys refl in
-        rw is (rw (first.0, first.1, rest.0), (first.2, rest.1))
+        rw is (ap (λ (pair : List ℕ). pair ++ t) first.0 ∙ rw rest.0, All-cons IsByte x ys first.1 rest.1)
 
 field_back : (xs : List ℕ) → OfBytes xs → field_bytes (field_text xs) ≡ Some xs
 field_back [] h = refl
 field_back (x ∷ xs) h = hex_back (x ∷ xs) h
 
-dash_forth : (c : ℕ) (xs : List ℕ) → cond (eqb c 45) (Some []) None ≡ Some xs → (c ∷ [] ≡ field_text xs) × OfBytes xs
-dash_forth c xs e = by (eqb c 45) refl e
-  where
-    by : (dash : Bool) → eqb c 45 ≡ dash → cond dash (Some []) None ≡ Some xs → (c ∷ [] ≡ field_text xs) × OfBytes xs
-    by true p q = let none : xs ≡ [] = cc in rw (none, eqb-true c 45 p) (refl, tt)
-    by false p q = absurd (grind arith)
+dash_forth : (c : ℕ) (xs : List ℕ) → field_bytes (c ∷ []) ≡ Some xs → (c ∷ [] ≡ field_text xs) × (xs ≡ [])
+dash_forth c xs e = (grind (arith, nat_tests), grind (arith, nat_tests))
 
 field_forth : (t xs : List ℕ) → field_bytes t ≡ Some xs → (t ≡ field_text xs) × OfBytes xs
 field_forth [] xs e = absurd (grind arith)
-field_forth (c ∷ []) xs e = dash_forth c xs e
+field_forth (c ∷ []) xs e = let dash = dash_forth c xs e in (dash.0, rw dash.1 (All-nil IsByte))
 field_forth (h ∷ l ∷ t) [] e = let p = (hex_forth (h ∷ l ∷ t) [] e).0 in absurd (grind arith)
 field_forth (h ∷ l ∷ t) (x ∷ xs) e = hex_forth (h ∷ l ∷ t) (x ∷ xs) e
 
 -- a text without a space
 abbrev NoSpace : List ℕ → Type 0
-NoSpace [] = Unit {0}
-NoSpace (c ∷ t) = (eqb c 32 ≡ false) × NoSpace t
+NoSpace t = AllByRecursion (λ c. (c == 32) ≡ false) t
 
 hex_no_space : (xs : List ℕ) → NoSpace (hex_text xs)
 hex_no_space [] = tt
@@ -94,45 +91,40 @@ field_no_space : (xs : List ℕ) → NoSpace (field_text xs)
 field_no_space [] = (refl, tt)
 field_no_space (x ∷ xs) = hex_no_space (x ∷ xs)
 
-pair_from_some : {p q : List ℕ × List ℕ} → Some p ≡ Some q → (p.0 ≡ q.0) × (p.1 ≡ q.1)
-pair_from_some {p} {q} e = let same : p ≡ q = cc in (ap (λ (x : List ℕ × List ℕ). x.0) same, ap (λ (x : List ℕ × List ℕ). x.1) same)
-
 cut_back : (f r : List ℕ) → NoSpace f → cut (f ++ (32 ∷ r)) ≡ Some (f, r)
 cut_back [] r h = refl
 cut_back (c ∷ f) r h = rw (h.0, cut_back f r h.1)
 
+cut_step : (c : ℕ) (t f r : List ℕ) → ((g q : List ℕ) → cut t ≡ Some (g, q) → t ≡ g ++ (32 ∷ q)) → cut (c ∷ t) ≡ Some (f, r) → c ∷ t ≡ f ++ (32 ∷ r)
+cut_step c t f r more e = grind (arith, nat_tests)
+
 cut_forth : (t f r : List ℕ) → cut t ≡ Some (f, r) → t ≡ f ++ (32 ∷ r)
 cut_forth [] f r e = absurd (grind arith)
-cut_forth (c ∷ t) f r e = by (eqb c 32) (cut t) refl (cut_forth t) e
-  where
-    by : (space : Bool) (o : Option (List ℕ × List ℕ)) → eqb c 32 ≡ space → ((g q : List ℕ) → o ≡ Some (g, q) → t ≡ g ++ (32 ∷ q))
-        → cond space (Some ([], t)) (option_map (longer c) o) ≡ Some (f, r) → c ∷ t ≡ f ++ (32 ∷ r)
-    by true o p q s =
-        let same = pair_from_some s in
-        rw (← same.0, ← same.1, eqb-true c 32 p)
-    by false None p q s = absurd (grind arith)
-    by false (Some x) p q s =
-        let same = pair_from_some s in
-        rw (← same.0, ← same.1) (ap (λ (l : List ℕ). c ∷ l) (q x.0 x.1 refl))
+cut_forth (c ∷ t) f r e = cut_step c t f r (cut_forth t) e
+
+-- a field with the space and the rest of the line behind it
+abbrev field_before : List ℕ → List ℕ → List ℕ
+field_before table rest = field_text table ++ (32 ∷ rest)
 
 then_back : (xs r : List ℕ) → OfBytes xs → field_then (field_before xs r) ≡ Some (xs, r)
 then_back xs r h = rw (cut_back (field_text xs) r (field_no_space xs), field_back xs h)
 
 -- from a field that is read to what is written of it: its text, and the rest behind it
-then_forth : {G : Type 0} (t xs r : List ℕ) → field_then t ≡ Some (xs, r) → (t ≡ field_before xs r → OfBytes xs → G) → G
-then_forth {G} t xs r e go = by (cut t) refl e
+then_forth : (t xs r : List ℕ) → field_then t ≡ Some (xs, r) → (t ≡ field_before xs r) × OfBytes xs
+then_forth t xs r e = by (cut t) (cut_forth t) e
   where
-    table : (x : List ℕ × List ℕ) (m : Option (List ℕ)) → t ≡ x.0 ++ (32 ∷ x.1) → field_bytes x.0 ≡ m
-        → option_map {U = List ℕ × List ℕ} (λ ys. (ys, x.1)) m ≡ Some (xs, r) → G
-    table x None c a b = absurd (grind arith)
-    table x (Some ys) c a b =
-        let same = pair_from_some b in
-        let field = field_forth x.0 ys a in
-        go (rw (← same.0, ← same.1) (c ∙ ap (λ (f : List ℕ). f ++ (32 ∷ x.1)) field.0)) (rw (← same.0) field.1)
+    parts : (table : Option (List ℕ)) (rest : List ℕ) → option_map {U = List ℕ × List ℕ} (λ ys. (ys, rest)) table ≡ Some (xs, r)
+        → (table ≡ Some xs) × (rest ≡ r)
+    parts None rest e = absurd (grind arith)
+    parts (Some table) rest e = (grind arith, grind arith)
 
-    by : (o : Option (List ℕ × List ℕ)) → cut t ≡ o → with_rest o ≡ Some (xs, r) → G
+    by : (o : Option (List ℕ × List ℕ)) → ((f q : List ℕ) → o ≡ Some (f, q) → t ≡ f ++ (32 ∷ q)) → with_rest o ≡ Some (xs, r)
+        → (t ≡ field_before xs r) × OfBytes xs
     by None p q = absurd (grind arith)
-    by (Some x) p q = table x (field_bytes x.0) (cut_forth t x.0 x.1 p) refl q
+    by (Some (f, rest)) p q =
+        let same = parts (field_bytes f) rest q in
+        let field = field_forth f xs same.0 in
+        (rw (p f rest refl, field.0, same.1), field.1)
 
 -- a line that is read as b begins with a field, and its rest goes on to b
 first_forth : {G : Type 0} (t : List ℕ) (next : List ℕ → List ℕ → Option Bytes) (b : Bytes) → on_field (field_then t) next ≡ Some b
@@ -141,7 +133,7 @@ first_forth {G} t next b e go = by (field_then t) refl e
   where
     by : (o : Option (List ℕ × List ℕ)) → field_then t ≡ o → on_field o next ≡ Some b → G
     by None p q = absurd (grind arith)
-    by (Some x) p q = then_forth t x.0 x.1 p (λ text bytes. go x.0 x.1 text bytes q)
+    by (Some x) p q = let first = then_forth t x.0 x.1 p in go x.0 x.1 first.0 first.1 q
 
 -- the last field has nothing behind it
 last_forth : {G : Type 0} (t : List ℕ) (made : List ℕ → Bytes) (b : Bytes) → option_map made (field_bytes t) ≡ Some b

@@ -1,6 +1,6 @@
 -- A line is cut at its spaces into fields. A field is a table: `-` where it is empty, else its bytes in
 -- hexadecimal.
-use Rattle.std.specs.Prelude.{ℕ, cond, List, [], ◌∷◌, Some, None, Option, ◌==◌}
+use Rattle.std.specs.Prelude.{ℕ, if◌then◌else◌, List, [], ◌∷◌, Some, None, Option, ◌==◌}
 use Rattle.std.specs.Borrow.{Bor}
 use Rattle.std.specs.Option.{option_map}
 use Rattle.unit_lines.specs.Hexadecimal.{hex_bytes}
@@ -12,7 +12,7 @@ longer character p = (character ∷ p.0, p.1)
 -- what stands before the first space (32) and what stands behind it
 abbrev pub cut : List ℕ → Option (List ℕ × List ℕ)
 cut [] = None
-cut (character ∷ text) = cond (character == 32) (Some ([], text)) (option_map (longer character) (cut text))
+cut (character ∷ text) = if character == 32 then Some ([], text) else option_map (longer character) (cut text)
 
 -- two slices as what they hold
 abbrev pub parts : Bor (List ℕ) × Bor (List ℕ) → List ℕ × List ℕ
@@ -21,7 +21,7 @@ parts p = (p.0.now, p.1.now)
 -- one character is no byte, so that it can only be the `-` (45)
 abbrev pub field_bytes : List ℕ → Option (List ℕ)
 field_bytes [] = None
-field_bytes (character ∷ []) = cond (character == 45) (Some []) None
+field_bytes (character ∷ []) = if character == 45 then Some [] else None
 field_bytes (high ∷ low ∷ text) = hex_bytes (high ∷ low ∷ text)
 
 -- a field's table and the rest of the line

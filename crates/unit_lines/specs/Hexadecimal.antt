@@ -1,12 +1,13 @@
 -- Lower-case hexadecimal is read two digits a byte, the higher first. A text of other characters, or of an
 -- odd number of them, stands for no bytes.
-use Rattle.std.specs.Prelude.{ℕ, ◌+◌, ◌-◌, ◌*◌, cond, ◌&&◌, List, [], ◌∷◌, Some, None, Option, nat_le}
+use Rattle.std.specs.Prelude.{ℕ, ◌+◌, ◌-◌, ◌*◌, if◌then◌else◌, ◌&&◌, List, [], ◌∷◌, Some, None, Option, nat_le}
 use Rattle.std.specs.Option.{option_map}
 
 abbrev pub digit_of : ℕ → Option ℕ
 digit_of character =
-    cond (nat_le 48 character && nat_le character 57) (Some (character - 48))
-    (cond (nat_le 97 character && nat_le character 102) (Some (character - 87)) None)
+    if nat_le 48 character && nat_le character 57 then Some (character - 48)
+    else if nat_le 97 character && nat_le character 102 then Some (character - 87)
+    else None
 
 abbrev pub byte_of_digits : Option ℕ → Option ℕ → Option ℕ
 byte_of_digits None low = None

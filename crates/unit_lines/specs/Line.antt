@@ -1,26 +1,9 @@
 -- The tables that a line stands for, in the order of their numbers. `line_tables` reads a line field by field,
 -- and has none where a field is missing, is no table, or is one too many.
-use Rattle.std.specs.Prelude.{ℕ, List, Some, None, vec_items, Option}
+use Rattle.std.specs.Prelude.{ℕ, List, Some, None, Option}
 use Rattle.std.specs.Option.{option_map}
 use Rattle.unit.specs.Bytes.{Bytes}
 use Rattle.unit_lines.specs.Fields.{field_bytes, field_then}
-use Rattle.unit_lines.specs.declared.line.UnitLine.{UnitLine}
-
--- what a line's memory holds
-abbrev pub held : UnitLine → Bytes
-held l =
-    record {
-      word_bytes = vec_items l.word_bytes;
-      words = vec_items l.words;
-      identifiers = vec_items l.identifiers;
-      places = vec_items l.places;
-      functions = vec_items l.functions;
-      blocks = vec_items l.blocks;
-      phis = vec_items l.phis;
-      instructions = vec_items l.instructions;
-      declared = vec_items l.declared;
-      steps = vec_items l.steps;
-    }
 
 abbrev pub on_field : Option (List ℕ × List ℕ) → (List ℕ → List ℕ → Option Bytes) → Option Bytes
 on_field None next = None

@@ -8,10 +8,11 @@ use std::alloc::AllocFailed;
 pub enum LineError {
     // The line is not ten fields, each a table.
     Unreadable,
-    // There is no memory for its tables.
+    // There is no memory for its tables. An `AllocError` has one value, so that it is not carried.
     Memory,
 }
 
+// By hand, since clauses name this error and a derived `From` says nothing of it.
 impl<T: Drop> From<AllocFailed<T>> for LineError {
     ghost from_gives = { λ _ e. e ≡ Memory };
 

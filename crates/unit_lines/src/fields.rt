@@ -1,5 +1,5 @@
 // The fields of a line, each a table.
-ghost use Rattle.std.specs.Prelude.{◌≡◌};
+ghost use Rattle.std.specs.Prelude.{◌≡◌, ◌==◌, position};
 ghost use Rattle.std.specs.Option.{option_map};
 ghost use Rattle.unit_lines.specs.Answers.{Reads};
 ghost use Rattle.unit_lines.specs.Fields.{cut, parts, field_bytes, field_then};
@@ -7,16 +7,19 @@ ghost use Rattle.unit_lines.specs.Fields.{cut, parts, field_bytes, field_then};
 use crate::error::LineError;
 use crate::hexadecimal::decode;
 
+fn first_space(text: &[u8]) -> Option<usize>
+    ensures { result ≡ position (λ c. c == 32) text.now }
+{
+    text.iter().position(|character| *character == b' ')
+}
+
 // What stands before the first space and what stands behind it.
+#[tactic(auto, using(crate::proofs::Cuts::cut_by_position, std::proofs::lemmas::List::take_rest))]
 fn cut_at_space(text: &[u8]) -> Option<(&[u8], &[u8])>
     ensures { option_map parts result ≡ cut text.now }
 {
-    for (i, character) in text.iter().enumerate() {
-        if *character == b' ' {
-            return Some((&text[0..i], &text[i + 1..]));
-        }
-    }
-    None
+    let at = first_space(text)?;
+    Some((&text[..at], &text[at + 1..]))
 }
 
 // Puts the table that a field stands for into `into`. One character is no byte, so that it can only be the
@@ -24,14 +27,13 @@ fn cut_at_space(text: &[u8]) -> Option<(&[u8], &[u8])>
 pub(crate) fn read_field(field: &[u8], into: &mut Vec<u8>) -> Result<(), LineError>
     ensures { Reads result (field_bytes field.now) (λ _. into.new.items) }
 {
-    if field.len() > 1 {
-        return decode(field, into);
-    }
-    into.clear();
-    if field.len() == 1 && field[0] == b'-' {
-        Ok(())
-    } else {
-        Err(LineError::Unreadable)
+    match field {
+        [b'-'] => {
+            into.clear();
+            Ok(())
+        }
+        [] | [_] => Err(LineError::Unreadable),
+        _ => decode(field, into),
     }
 }
 
@@ -39,9 +41,7 @@ pub(crate) fn read_field(field: &[u8], into: &mut Vec<u8>) -> Result<(), LineErr
 pub(crate) fn take_field<'a>(text: &'a [u8], into: &mut Vec<u8>) -> Result<&'a [u8], LineError>
     ensures { Reads result (field_then text.now) (λ rest. (into.new.items, rest.now)) }
 {
-    let Some((field, rest)) = cut_at_space(text) else {
-        return Err(LineError::Unreadable);
-    };
+    let (field, rest) = cut_at_space(text).ok_or(LineError::Unreadable)?;
     read_field(field, into)?;
     Ok(rest)
 }

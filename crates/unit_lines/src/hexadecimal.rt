@@ -5,6 +5,7 @@ ghost use Rattle.unit_lines.specs.Hexadecimal.{digit_of, byte_of, hex_bytes};
 
 use crate::error::LineError;
 
+// Not by `to_digit`, which takes capitals too.
 fn digit_of(character: u8) -> Option<u8>
     ensures { result ≡ digit_of character }
 {
@@ -19,24 +20,20 @@ fn digit_of(character: u8) -> Option<u8>
 fn byte_of(pair: &[u8]) -> Option<u8>
     ensures { result ≡ byte_of pair.now }
 {
-    match pair {
-        [high, low] => match (digit_of(*high), digit_of(*low)) {
-            (Some(high), Some(low)) => Some(16 * high + low),
-            _ => None,
-        },
-        _ => None,
-    }
+    let [high, low] = pair else { return None };
+    let high = digit_of(*high)?;
+    let low = digit_of(*low)?;
+    Some(16 * high + low)
 }
 
 // Puts the bytes of a text into `into`, in place of what it holds.
+#[tactic(auto, using(crate::proofs::Pairs::first_pair, crate::proofs::Pairs::after_push))]
 pub(crate) fn decode(text: &[u8], into: &mut Vec<u8>) -> Result<(), LineError>
     ensures { Reads result (hex_bytes text.now) (λ _. into.new.items) }
 {
     into.clear();
     for pair in text.chunks(2) {
-        let Some(byte) = byte_of(pair) else {
-            return Err(LineError::Unreadable);
-        };
+        let byte = byte_of(pair).ok_or(LineError::Unreadable)?;
         into.push(byte)?;
     }
     Ok(())

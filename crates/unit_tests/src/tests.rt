@@ -4,7 +4,7 @@ use tables::parts::Part;
 use unit::check::check as check_unit;
 use unit::checked::CheckedUnit;
 use unit::refusal::Refusal;
-use unit::rows::{Instruction, Shape, Terminal};
+use unit::rows::{BasicBlock, Function, Identifier, Instruction, InstructionRow, Place, Terminal};
 use unit::table::Table;
 use unit::unit_tables::Tables;
 use unit_lines::error::LineError;
@@ -23,28 +23,28 @@ fn reads_names(rt: &impl Abort, unit: &CheckedUnit) {
     assert!(rt; unit.rows(Table::Words) == 1);
     assert!(rt; unit.word(0) == b"a".as_slice());
     assert!(rt; unit.rows(Table::Identifiers) == 3);
-    let props = unit.identifier(0);
+    let props = unit.read::<Identifier>(0);
     assert!(rt; props.named && !props.use_ref);
-    assert!(rt; matches!(props.shape, Shape::Absent));
+    assert_eq!(rt; props.shape, None);
     assert!(rt; unit.rows(Table::Places) == 2);
-    let place = unit.place(0);
+    let place = unit.read::<Place>(0);
     assert_eq!(rt; place.identifier, 0);
     assert_eq!(rt; place.span, Some(7));
     assert!(rt; !place.spread);
-    assert_eq!(rt; unit.place(1).span, None);
+    assert_eq!(rt; unit.read::<Place>(1).span, None);
 }
 
 fn reads_code(rt: &impl Abort, unit: &CheckedUnit) -> Result<(), Fail> {
     assert!(rt; unit.rows(Table::Functions) == 1);
-    let function = unit.function(0);
+    let function = unit.read::<Function>(0);
     assert_eq!(rt; function.params, part(0, 1));
     assert_eq!(rt; function.blocks, part(0, 1));
     assert!(rt; unit.rows(Table::Blocks) == 1);
-    let block = unit.block(0);
+    let block = unit.read::<BasicBlock>(0);
     assert_eq!(rt; block.instructions, part(0, 2));
     assert!(rt; matches!(block.terminal, Terminal::Other));
     assert!(rt; unit.rows(Table::Instructions) == 2);
-    let load = unit.instruction(0);
+    let load = unit.read::<InstructionRow>(0);
     assert_eq!(rt; load.result, 1);
     assert!(rt;
         matches!(
@@ -55,7 +55,7 @@ fn reads_code(rt: &impl Abort, unit: &CheckedUnit) -> Result<(), Fail> {
             }
         )
     );
-    match unit.instruction(1).instruction {
+    match unit.read::<InstructionRow>(1).instruction {
         Instruction::Other { lvalues, operands } => {
             assert_eq!(rt; lvalues, part(0, 0));
             assert_eq!(rt; operands, part(1, 1));
@@ -65,7 +65,7 @@ fn reads_code(rt: &impl Abort, unit: &CheckedUnit) -> Result<(), Fail> {
     }
 }
 
-fn reads_worked(rt: &impl Abort, tables: Tables) -> Result<(), Fail> {
+fn reads_worked(rt: &impl Abort, tables: Tables<&[u8]>) -> Result<(), Fail> {
     let mut unit = CheckedUnit::empty();
     match check_unit(tables, &mut unit) {
         Ok(()) => {
@@ -84,7 +84,7 @@ fn rows_are_read(rt: HostRuntime) -> Result<(), Fail> {
 }
 
 // A refused unit leaves the place as it was.
-fn stays_empty(rt: &impl Abort, tables: Tables) {
+fn stays_empty(rt: &impl Abort, tables: Tables<&[u8]>) {
     let mut unit = CheckedUnit::empty();
     let answer = check_unit(tables, &mut unit);
     assert_eq!(rt;

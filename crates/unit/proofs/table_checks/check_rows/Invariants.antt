@@ -8,8 +8,11 @@ use Rattle.unit.specs.Verdict.{row_flaw}
 use Rattle.unit.proofs.table_checks.check_rows.Given as goal
 
 abbrev pub invariant-loop-row : goal.invariant-loop-row
-invariant-loop-row l =
-    (goal.iterator-loop-row).can_next l.row-iterator ×
-    (goal.iterator-loop-row).is_finite l.row-iterator ×
-    Searching (at l.table) (row_flaw (bytes_of l.tables) l.table) (bytes_at (bytes_of l.tables) l.table) (width l.table)
-    (enumerate_count l.row-iterator) (chunks_exact_size (enumerate_source l.row-iterator)) (chunks_exact_rest (enumerate_source l.row-iterator))
+invariant-loop-row g l =
+    let table = g.R.Record.TABLE in
+    record {
+      can_next : (goal.iterator-loop-row g).can_next l.row-iterator;
+      is_finite : (goal.iterator-loop-row g).is_finite l.row-iterator;
+      searching : Searching (at table) (row_flaw (bytes_of l.tables) table) (bytes_at (bytes_of l.tables) table) (width table)
+          (enumerate_count l.row-iterator) (chunks_exact_size (enumerate_source l.row-iterator)) (chunks_exact_rest (enumerate_source l.row-iterator));
+    }
