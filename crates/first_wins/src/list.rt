@@ -8,7 +8,7 @@ ghost use Rattle.first_wins.specs.Laws.{EarliestOfAll, OnceEach, NothingTwice, I
 use crate::keys::Keys;
 
 // The key was there, and at which index; or the entry is new, and at which index it stands; or it is new and there is no room.
-// No Option or Result: a caller tells all three apart, and a list without room has not failed.
+// No `Result` with an error for no room: `enter` can't fail, and a caller would match twice to tell three answers apart.
 #[derive(Clone, Copy, PartialEq, Eq, Debug)]
 pub enum Entered {
     Known(usize),
@@ -39,6 +39,7 @@ fn in_use<T: Copy>(slice: &[T], len: usize) -> &[T]
 }
 
 // Enters an entry into the list of the first `len` entries of the slice.
+#[tactic(auto, using(crate::proofs::Known::first_known))]
 pub fn enter<K: Keys>(keys: &K, slice: &mut [K::Entry], len: usize, new: K::Entry) -> Entered
     requires held { All (K.Keys.admits keys.now) (take len slice.old) }
     requires asked { K.Keys.admits keys.now new }

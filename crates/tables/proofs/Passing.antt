@@ -1,5 +1,6 @@
 -- What it says that nothing is refused, part by part.
 use Rattle.std.proofs.Common.{◌≡◌, ℕ, zero, suc, ◌<◌, ◌≤◌, Bool, true, false, not, nat_eq, nat_lt, nat_le, ◌⊎◌, ◌↔◌, is_some, Some, None, Option, refl, inl, inr, ⊎_elim, arith}
+use Rattle.std.specs.Prelude.{⊤}
 use Rattle.std.specs.Bool.{then_some}
 use Rattle.std.specs.Option.{option_map}
 use Rattle.std.proofs.lemmas.Bool.{ltb-false, leb-false, eqb-false, le-ltb, lt-leb, ne_eqb, cases_eq}
@@ -17,7 +18,7 @@ module _ {R : Type 0} where
   passes_then None q p s = (λ e. (p.0 refl, s.0 e), λ h. s.1 h.1)
   passes_then (Some x) q p s = (λ e. absurd (grind arith), λ h. p.1 h.0)
 
-  pub passes_always : Passes {R = R} None (Unit {0})
+  pub passes_always : Passes {R = R} None ⊤
   passes_always = (λ e. tt, λ h. refl)
 
   pub passes_mapped : {S : Type 0} (f : R → S) (o : Option R) {P : Type 0} → Passes o P → Passes (option_map f o) P

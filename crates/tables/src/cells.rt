@@ -22,6 +22,7 @@ fn number_at(bytes: &[u8], at: usize) -> u32
     u32::from_le_bytes([bytes[at], bytes[at + 1], bytes[at + 2], bytes[at + 3]])
 }
 
+// Of any slice that is long enough, as `part_of` is; a `Row` asks only for a column that its kind has.
 #[tactic(auto, unfolding(crate::specs::Cells::cell))]
 pub fn cell(row: &[u8], column: usize) -> u32
     requires { 4 * column + 4 ≤ length row.now }

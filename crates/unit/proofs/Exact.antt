@@ -1,5 +1,6 @@
 -- Nothing of a unit is refused exactly when it is sound: rule by rule, row by row, table by table.
 use Rattle.std.proofs.Common.{◌≡◌, ℕ, ◌+◌, ◌%◌, ◌<◌, ◌≤◌, true, List, [], ◌∷◌, length, IfSome, Some, None, Option, arith}
+use Rattle.std.specs.Prelude.{⊤}
 use Rattle.tables.specs.Cells.{cell, optional}
 use Rattle.tables.specs.First.{◌then◌, row_refusal}
 use Rattle.tables.specs.Parts.{part_of}
@@ -10,7 +11,7 @@ use Rattle.unit.specs.Flaws.{number_flaw, optional_flaw, part_flaw, empty_flaw, 
 use Rattle.unit.specs.Format.{width, limit, columned, every_table}
 use Rattle.unit.specs.Inside.{IsRow, IsPart, TerminalInside, OperandsInside, RootInside}
 use Rattle.unit.specs.Law.{AcceptedExactly}
-use Rattle.unit.specs.Rows.{terminal_of, instruction_of, root_of}
+use Rattle.unit.specs.Rows.{HasKind, terminal_of, instruction_of, root_of}
 use Rattle.unit.specs.Sound.{IsFlag, OptionalFlag, ReassignFlag, Sized, RowSound, RowsSound, Sound}
 use Rattle.unit.specs.Verdict.{terminal_flaw, operands_flaw, root_flaw, row_flaw, size_verdict, rows_verdict, first_of, verdict, passes}
 use Rattle.unit.specs.declared.refusal.Refusal.{Refusal}
@@ -48,7 +49,7 @@ module _ (b : Bytes) where
   root (Global name) = number Words name
 
   -- a rule that asks nothing beside one that asks P
-  unasked : {R P : Type 0} {o : Option R} → Passes o P → Passes o (Unit {0} × P)
+  unasked : {R P : Type 0} {o : Option R} → Passes o P → Passes o (⊤ × P)
   unasked p = passes_as p (λ h. (tt, h)) (λ h. h.1)
 
   columns_a_b_c : (row : List ℕ) (t : Terminal) → Passes (terminal_flaw b row t) (OptionalFlag t (cell row 5) × TerminalInside b t)
@@ -66,7 +67,7 @@ module _ (b : Bytes) where
       (λ h. (h.1.1, (h.0, h.1.0))) (λ h. (h.1.0, (h.1.1, h.0)))
 
   called : (place : ℕ) (operands : Part)
-      → Passes (number_flaw b Places place then part_flaw b Places operands then empty_flaw operands) (Unit {0} × (IsRow b Places place × IsPart b Places operands × (0 < operands.count)))
+      → Passes (number_flaw b Places place then part_flaw b Places operands then empty_flaw operands) (⊤ × (IsRow b Places place × IsPart b Places operands × (0 < operands.count)))
   called place operands =
       unasked (passes_as (passes_then _ _ (number Places place) (passes_then _ _ (part Places operands) (filled operands)))
       (λ h. (h.0, h.1.0, h.1.1)) (λ h. (h.0, (h.1, h.2))))
@@ -124,7 +125,7 @@ module _ (b : Bytes) where
 
 -- what holds of each table of a list
 Each : (Table → Type 0) → List Table → Type 0
-Each P [] = Unit {0}
+Each P [] = ⊤
 Each P (table ∷ tables) = P table × Each P tables
 
 each_passes : (f : Table → Option Refusal) (P : Table → Type 0) → ((table : Table) → Passes (f table) (P table))
@@ -187,3 +188,16 @@ few_rows b h table = most table ((sound b h).sized table).1
     most Instructions l = omega arith
     most Declared l = omega arith
     most Steps l = omega arith
+
+-- a sound row has a kind that there is
+pub has_kind : (b : Bytes) (table : Table) (row : List ℕ) → RowSound b table row → HasKind table row
+has_kind b WordBytes row s = tt
+has_kind b Words row s = tt
+has_kind b Identifiers row s = tt
+has_kind b Places row s = tt
+has_kind b Functions row s = tt
+has_kind b Blocks row s = s.0
+has_kind b Phis row s = tt
+has_kind b Instructions row s = (s.0, s.1)
+has_kind b Declared row s = tt
+has_kind b Steps row s = tt

@@ -1,5 +1,6 @@
 -- A refusal tells of the first thing that is wrong, in the order of the tables' numbers and then of the rows.
 use Rattle.std.proofs.Common.{◌≡◌, ℕ, suc, ◌%◌, ◌<◌, ◌≤◌, nat_lt, List, [], ◌∷◌, length, slice_index_or, IfSome, Some, None, Option, sym, refl, ap, ◌∙◌, ⊎_elim, arith}
+use Rattle.std.specs.Prelude.{⊤}
 use Rattle.std.proofs.lemmas.Bool.{cases_eq}
 use Rattle.tables.specs.First.{row_refusal}
 use Rattle.tables.proofs.Passing.{passes_mapped}
@@ -36,7 +37,7 @@ same_table s t e = sym (by_number s) ∙ ap (λ n. slice_index_or every_table n 
 
 -- tables whose numbers count up from k
 abbrev Counted : ℕ → List Table → Type 0
-Counted k [] = Unit {0}
+Counted k [] = ⊤
 Counted k (table ∷ tables) = (number table ≡ k) × Counted (suc k) tables
 
 -- the first table of such a list that is refused

@@ -1,6 +1,6 @@
 -- What it says that a row as read lies inside the tables: every number is a row of its table, every part
 -- lies inside its table, and a call has operands.
-use Rattle.std.specs.Prelude.{ℕ, ◌<◌, IfSome}
+use Rattle.std.specs.Prelude.{ℕ, ◌<◌, IfSome, ⊤}
 use Rattle.tables.specs.Parts.{PartInside}
 use Rattle.tables.specs.declared.parts.Part.{Part}
 use Rattle.unit.specs.Bytes.{Bytes, rows}
@@ -41,12 +41,12 @@ abbrev pub FunctionInside : Bytes → Function → Type 0
 FunctionInside b f = IsPart b Places f.params × IsPart b Blocks f.blocks
 
 abbrev pub TerminalInside : Bytes → Terminal → Type 0
-TerminalInside b terminal.Other = Unit {0}
+TerminalInside b terminal.Other = ⊤
 TerminalInside b (terminal.Branch test consequent fallthrough) = IsRow b Places test
-TerminalInside b (terminal.Optional «optional» test fallthrough) = Unit {0}
-TerminalInside b (terminal.LogicalOrTernary test) = Unit {0}
-TerminalInside b (terminal.Sequence block) = Unit {0}
-TerminalInside b (terminal.MaybeThrow continuation) = Unit {0}
+TerminalInside b (terminal.Optional «optional» test fallthrough) = ⊤
+TerminalInside b (terminal.LogicalOrTernary test) = ⊤
+TerminalInside b (terminal.Sequence block) = ⊤
+TerminalInside b (terminal.MaybeThrow continuation) = ⊤
 
 abbrev pub BlockInside : Bytes → BasicBlock → Type 0
 BlockInside b block =

@@ -9,3 +9,4 @@ pub mod Law
 pub mod Held
 pub mod Told
 pub mod Checks
+pub mod Kinds

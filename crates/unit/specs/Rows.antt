@@ -1,6 +1,6 @@
--- What a row of each table says, by its cells. An unknown kind reads as the last one and a flag over 1 as
--- false; the check refuses both, so that nothing is read of them.
-use Rattle.std.specs.Prelude.{ℕ, if◌then◌else◌, List, take, drop, ◌==◌}
+-- What a row of each table says, by its cells. For any row at all there is something said: an unknown kind reads as the
+-- last one and a flag over 1 as false. The check refuses both, so that nothing is read of them.
+use Rattle.std.specs.Prelude.{ℕ, ◌≤◌, ⊤, if◌then◌else◌, List, take, drop, ◌==◌}
 use Rattle.tables.specs.Cells.{cell, flag_at, optional}
 use Rattle.tables.specs.Parts.{part_of}
 use Rattle.unit.specs.declared.rows.Word.{Word}
@@ -18,10 +18,25 @@ use Rattle.unit.specs.declared.rows.ManualMemoDependencyRoot.{ManualMemoDependen
 use Rattle.unit.specs.declared.rows.ManualMemoDependencyRoot.TheVariants.{NamedLocal, Global}
 use Rattle.unit.specs.declared.rows.ManualMemoDependency.{ManualMemoDependency}
 use Rattle.unit.specs.declared.rows.Step.{Step}
+use Rattle.unit.specs.declared.table.Table.{Table}
+use Rattle.unit.specs.declared.table.Table.TheVariants.{WordBytes, Words, Identifiers, Places, Functions, Blocks, Phis, Instructions, Declared, Steps}
 
 -- a word's bytes among the word bytes
 abbrev pub word_of : List ℕ → List ℕ → List ℕ
 word_of word_bytes row = take (cell row 1) (drop (cell row 0) word_bytes)
+
+-- the kind of a row is one that there is; only blocks and instructions have kinds
+abbrev pub HasKind : Table → List ℕ → Type 0
+HasKind WordBytes row = ⊤
+HasKind Words row = ⊤
+HasKind Identifiers row = ⊤
+HasKind Places row = ⊤
+HasKind Functions row = ⊤
+HasKind Blocks row = cell row 4 ≤ 5
+HasKind Phis row = ⊤
+HasKind Instructions row = (1 ≤ cell row 0) × (cell row 0 ≤ 15)
+HasKind Declared row = ⊤
+HasKind Steps row = ⊤
 
 abbrev pub word_row_of : List ℕ → Word
 word_row_of row = record { bytes = part_of row 0 }

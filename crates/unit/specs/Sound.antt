@@ -1,6 +1,6 @@
 -- What a unit must be, table by table: whole rows and not too many; in each row every flag 0 or 1, every
 -- kind known, and what the row says inside the tables.
-use Rattle.std.specs.Prelude.{◌≡◌, ℕ, ◌%◌, ◌<◌, ◌≤◌, List, length}
+use Rattle.std.specs.Prelude.{◌≡◌, ℕ, ◌%◌, ◌<◌, ◌≤◌, List, length, ⊤}
 use Rattle.tables.specs.Cells.{cell}
 use Rattle.unit.specs.Bytes.{Bytes, bytes_at, rows, row_at}
 use Rattle.unit.specs.Format.{width, limit}
@@ -18,33 +18,33 @@ IsFlag cell = cell ≤ 1
 
 -- the column a of a block is a flag where the terminal is an Optional
 abbrev pub OptionalFlag : Terminal → ℕ → Type 0
-OptionalFlag terminal.Other a = Unit {0}
-OptionalFlag (terminal.Branch test consequent fallthrough) a = Unit {0}
+OptionalFlag terminal.Other a = ⊤
+OptionalFlag (terminal.Branch test consequent fallthrough) a = ⊤
 OptionalFlag (terminal.Optional «optional» test fallthrough) a = IsFlag a
-OptionalFlag (terminal.LogicalOrTernary test) a = Unit {0}
-OptionalFlag (terminal.Sequence block) a = Unit {0}
-OptionalFlag (terminal.MaybeThrow continuation) a = Unit {0}
+OptionalFlag (terminal.LogicalOrTernary test) a = ⊤
+OptionalFlag (terminal.Sequence block) a = ⊤
+OptionalFlag (terminal.MaybeThrow continuation) a = ⊤
 
 -- the column c of an instruction is a flag where its kind has Reassign there
 abbrev pub ReassignFlag : Instruction → ℕ → Type 0
-ReassignFlag (instruction.LoadGlobal name binding) c = Unit {0}
-ReassignFlag (instruction.LoadLocal place) c = Unit {0}
-ReassignFlag (instruction.DeclareLocal place) c = Unit {0}
-ReassignFlag (instruction.DeclareContext place) c = Unit {0}
+ReassignFlag (instruction.LoadGlobal name binding) c = ⊤
+ReassignFlag (instruction.LoadLocal place) c = ⊤
+ReassignFlag (instruction.DeclareLocal place) c = ⊤
+ReassignFlag (instruction.DeclareContext place) c = ⊤
 ReassignFlag (instruction.StoreLocal target value reassign) c = IsFlag c
 ReassignFlag (instruction.StoreContext target value reassign) c = IsFlag c
 ReassignFlag (instruction.Destructure value reassign pattern) c = IsFlag c
-ReassignFlag (instruction.PropertyLoad object property) c = Unit {0}
-ReassignFlag (instruction.FunctionExpression function) c = Unit {0}
-ReassignFlag (instruction.StartMemoize memo span declared) c = Unit {0}
-ReassignFlag (instruction.FinishMemoize memo decl) c = Unit {0}
-ReassignFlag (instruction.ArrayExpression elements) c = Unit {0}
-ReassignFlag (instruction.CallExpression callee operands) c = Unit {0}
-ReassignFlag (instruction.MethodCall property operands) c = Unit {0}
-ReassignFlag (instruction.Other lvalues operands) c = Unit {0}
+ReassignFlag (instruction.PropertyLoad object property) c = ⊤
+ReassignFlag (instruction.FunctionExpression function) c = ⊤
+ReassignFlag (instruction.StartMemoize memo span declared) c = ⊤
+ReassignFlag (instruction.FinishMemoize memo decl) c = ⊤
+ReassignFlag (instruction.ArrayExpression elements) c = ⊤
+ReassignFlag (instruction.CallExpression callee operands) c = ⊤
+ReassignFlag (instruction.MethodCall property operands) c = ⊤
+ReassignFlag (instruction.Other lvalues operands) c = ⊤
 
 abbrev pub RowSound : Bytes → Table → List ℕ → Type 0
-RowSound b WordBytes row = Unit {0}
+RowSound b WordBytes row = ⊤
 RowSound b Words row = WordInside b (word_row_of row)
 RowSound b Identifiers row = IsFlag (cell row 0) × IsFlag (cell row 1) × IdentifierInside b (identifier_of row)
 RowSound b Places row = PlaceInside b (place_of row) × IsFlag (cell row 2)

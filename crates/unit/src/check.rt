@@ -9,7 +9,6 @@ ghost use Rattle.unit.specs.Verdict.{verdict};
 
 use crate::checked::CheckedUnit;
 use crate::refusal::Refusal;
-use crate::table_checks::check_tables;
 use crate::unit_tables::Tables;
 
 impl<'a> CheckedUnit<'a> {
@@ -19,18 +18,7 @@ impl<'a> CheckedUnit<'a> {
         ensures { held result ≡ no_bytes }
     {
         CheckedUnit {
-            tables: Tables {
-                word_bytes: &[],
-                words: &[],
-                identifiers: &[],
-                places: &[],
-                functions: &[],
-                blocks: &[],
-                phis: &[],
-                instructions: &[],
-                declared: &[],
-                steps: &[],
-            },
+            tables: Tables::default(),
         }
     }
 }
@@ -41,7 +29,7 @@ impl<'a> TryFrom<Tables<&'a [u8]>> for CheckedUnit<'a> {
     ghost try_from_gives = { Checks };
 
     fn try_from(tables: Tables<&'a [u8]>) -> Result<CheckedUnit<'a>, Refusal> {
-        check_tables(&tables)?;
+        tables.check()?;
         Ok(CheckedUnit { tables })
     }
 }

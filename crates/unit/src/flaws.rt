@@ -3,8 +3,9 @@ ghost use Rattle.std.specs.Prelude.{◌≡◌};
 ghost use Rattle.std.specs.Bool.{then_some};
 ghost use Rattle.std.specs.Result.{result_err};
 ghost use Rattle.unit.specs.Bytes.{bytes_of};
-ghost use Rattle.unit.specs.Flaws.{number_flaw, part_flaw, optional_flaw, flag_flaw, kind_flaw, empty_flaw, at};
+ghost use Rattle.unit.specs.Flaws.{number_flaw, part_flaw, optional_flaw, flag_flaw, empty_flaw, at};
 
+use crate::records::UnknownKind;
 use crate::refusal::Refusal;
 use crate::table::Table;
 use crate::unit_tables::Tables;
@@ -26,6 +27,16 @@ impl Flaw {
             Flaw::Outside => Refusal::Outside { table, row },
             Flaw::Unknown => Refusal::Unknown { table, row },
         }
+    }
+}
+
+impl From<UnknownKind> for Flaw {
+    ghost use Rattle.unit.specs.declared.flaws.Flaw.TheVariants.{Unknown};
+
+    ghost from_gives = { λ _ flaw. flaw ≡ Unknown };
+
+    fn from(_: UnknownKind) -> Flaw {
+        Flaw::Unknown
     }
 }
 
@@ -51,12 +62,10 @@ impl Tables<&[u8]> {
         }
     }
 
-    // The sum is taken in 64 bits, so that it can't wrap.
     pub(crate) fn check_part(&self, of: Table, part: Part) -> Result<(), Flaw>
         ensures { result_err result ≡ part_flaw (bytes_of self.now) of part }
     {
-        let end = part.first as usize + part.count as usize;
-        flaw_if(self.rows(of) < end, Flaw::Outside)
+        flaw_if(self.rows(of) < part.range().end, Flaw::Outside)
     }
 }
 
@@ -70,12 +79,4 @@ pub(crate) fn check_flag(flag: u32) -> Result<(), Flaw>
     ensures { result_err result ≡ flag_flaw flag }
 {
     flaw_if(flag > 1, Flaw::Unknown)
-}
-
-// Two numbers, and no `RangeInclusive`: one that was gone through contains nothing, so that a kind could be refused for it.
-pub(crate) fn check_kind(least: u32, most: u32, kind: u32) -> Result<(), Flaw>
-    ensures { result_err result ≡ kind_flaw least most kind }
-{
-    flaw_if(kind < least, Flaw::Unknown)?;
-    flaw_if(kind > most, Flaw::Unknown)
 }

@@ -37,7 +37,6 @@ impl<'a> CheckedUnit<'a> {
         ensures { result.now ≡ word_of (held self.now).word_bytes (row_at (held self.now) Table.Words row) }
     {
         let word = self.read::<Word>(row).bytes;
-        let first = word.first as usize;
-        &self.tables.word_bytes[first..first + word.count as usize]
+        &self.tables.word_bytes[word.range()]
     }
 }

@@ -1,9 +1,11 @@
 // Rows read from their bytes: for each kind of rows the table that has them, its columns, and what they say.
 ghost use Rattle.std.specs.Prelude.{ℕ, ◌≡◌, ◌*◌, List, refl};
+ghost use Rattle.tables.specs.Cells.{cell};
 ghost use Rattle.unit.specs.Bytes.{Bytes};
 ghost use Rattle.unit.specs.Format.{width};
 ghost use Rattle.unit.specs.Inside.{WordInside, IdentifierInside, PlaceInside, FunctionInside, BlockInside, PhiInside, InstructionInside, DeclaredInside, StepInside};
-ghost use Rattle.unit.specs.Rows.{word_row_of, identifier_of, place_of, function_of, terminal_of, block_of, phi_of, instruction_of, instruction_row_of, root_of, declared_of, step_of};
+ghost use Rattle.unit.specs.Kinds.{OfKind};
+ghost use Rattle.unit.specs.Rows.{HasKind, word_row_of, identifier_of, place_of, function_of, terminal_of, block_of, phi_of, instruction_of, instruction_row_of, root_of, declared_of, step_of};
 ghost use Rattle.unit.specs.Sound.{RowSound};
 ghost use Rattle.unit.specs.declared.table.Table.{Table};
 
@@ -13,6 +15,10 @@ use crate::rows::{
 };
 use crate::table::Table;
 use tables::row::{Layout, Row};
+
+// The number of a kind that there is not.
+#[derive(Clone, Copy, PartialEq, Eq, Debug)]
+pub struct UnknownKind(pub u32);
 
 // The rows of one table.
 pub trait Record: Layout {
@@ -26,6 +32,7 @@ pub trait Record: Layout {
     ghost inside: { Bytes → Self → Type 0 };
 
     fn decode(row: &Row<Self>) -> Self
+        requires { HasKind TABLE row.now }
         ensures { result ≡ decode row.now };
 
     ghost wide: { width TABLE ≡ 4 * Self.columns };
@@ -132,28 +139,32 @@ impl Record for Function {
     ghost sound_inside = { λ b row s. s };
 }
 
-// Here a kind's number becomes its variant. No `TryFrom`: the check has refused every other number, and no reader tests anything.
-pub(crate) fn terminal_of(row: &Row<BasicBlock>) -> Terminal
-    ensures { result ≡ terminal_of row.now }
-{
-    let a = row.cell(5);
-    let b = row.cell(6);
-    let c = row.cell(7);
-    match row.cell(4) {
-        1 => Terminal::Branch {
-            test: a,
-            consequent: b,
-            fallthrough: c,
-        },
-        2 => Terminal::Optional {
-            optional: row.flag(5),
-            test: b,
-            fallthrough: c,
-        },
-        3 => Terminal::LogicalOrTernary { test: b },
-        4 => Terminal::Sequence { block: b },
-        5 => Terminal::MaybeThrow { continuation: b },
-        _ => Terminal::Other,
+impl<'r, 'a> TryFrom<&'r Row<'a, BasicBlock>> for Terminal {
+    type Error = UnknownKind;
+
+    ghost try_from_gives = { λ row result. OfKind 0 5 (cell row.now 4) (terminal_of row.now) result };
+
+    fn try_from(row: &'r Row<'a, BasicBlock>) -> Result<Terminal, UnknownKind> {
+        let a = row.cell(5);
+        let b = row.cell(6);
+        let c = row.cell(7);
+        Ok(match row.cell(4) {
+            0 => Terminal::Other,
+            1 => Terminal::Branch {
+                test: a,
+                consequent: b,
+                fallthrough: c,
+            },
+            2 => Terminal::Optional {
+                optional: row.flag(5),
+                test: b,
+                fallthrough: c,
+            },
+            3 => Terminal::LogicalOrTernary { test: b },
+            4 => Terminal::Sequence { block: b },
+            5 => Terminal::MaybeThrow { continuation: b },
+            kind => return Err(UnknownKind(kind)),
+        })
     }
 }
 
@@ -174,7 +185,7 @@ impl Record for BasicBlock {
         BasicBlock {
             phis: row.part(0),
             instructions: row.part(2),
-            terminal: terminal_of(row),
+            terminal: Terminal::try_from(row).unwrap(),
             operands: row.part(8),
         }
     }
@@ -209,63 +220,67 @@ impl Record for Phi {
     ghost sound_inside = { λ b row s. s };
 }
 
-// The same for the kinds of instructions.
-pub(crate) fn instruction_of(row: &Row<InstructionRow>) -> Instruction
-    ensures { result ≡ instruction_of row.now }
-{
-    let a = row.cell(3);
-    let b = row.cell(4);
-    let part = row.part(6);
-    match row.cell(0) {
-        1 => Instruction::LoadGlobal {
-            name: a,
-            binding: b,
-        },
-        2 => Instruction::LoadLocal { place: a },
-        3 => Instruction::DeclareLocal { place: a },
-        4 => Instruction::DeclareContext { place: a },
-        5 => Instruction::StoreLocal {
-            target: a,
-            value: b,
-            reassign: row.flag(5),
-        },
-        6 => Instruction::StoreContext {
-            target: a,
-            value: b,
-            reassign: row.flag(5),
-        },
-        7 => Instruction::Destructure {
-            value: b,
-            reassign: row.flag(5),
-            pattern: part,
-        },
-        8 => Instruction::PropertyLoad {
-            object: a,
-            property: row.optional(4),
-        },
-        9 => Instruction::FunctionExpression { function: a },
-        10 => Instruction::StartMemoize {
-            memo_id: a,
-            span: row.optional(5),
-            declared: part,
-        },
-        11 => Instruction::FinishMemoize {
-            memo_id: a,
-            decl: b,
-        },
-        12 => Instruction::ArrayExpression { elements: part },
-        13 => Instruction::CallExpression {
-            callee: a,
-            operands: part,
-        },
-        14 => Instruction::MethodCall {
-            property: a,
-            operands: part,
-        },
-        _ => Instruction::Other {
-            lvalues: row.part(4),
-            operands: part,
-        },
+impl<'r, 'a> TryFrom<&'r Row<'a, InstructionRow>> for Instruction {
+    type Error = UnknownKind;
+
+    ghost try_from_gives = { λ row result. OfKind 1 15 (cell row.now 0) (instruction_of row.now) result };
+
+    fn try_from(row: &'r Row<'a, InstructionRow>) -> Result<Instruction, UnknownKind> {
+        let a = row.cell(3);
+        let b = row.cell(4);
+        let part = row.part(6);
+        Ok(match row.cell(0) {
+            1 => Instruction::LoadGlobal {
+                name: a,
+                binding: b,
+            },
+            2 => Instruction::LoadLocal { place: a },
+            3 => Instruction::DeclareLocal { place: a },
+            4 => Instruction::DeclareContext { place: a },
+            5 => Instruction::StoreLocal {
+                target: a,
+                value: b,
+                reassign: row.flag(5),
+            },
+            6 => Instruction::StoreContext {
+                target: a,
+                value: b,
+                reassign: row.flag(5),
+            },
+            7 => Instruction::Destructure {
+                value: b,
+                reassign: row.flag(5),
+                pattern: part,
+            },
+            8 => Instruction::PropertyLoad {
+                object: a,
+                property: row.optional(4),
+            },
+            9 => Instruction::FunctionExpression { function: a },
+            10 => Instruction::StartMemoize {
+                memo_id: a,
+                span: row.optional(5),
+                declared: part,
+            },
+            11 => Instruction::FinishMemoize {
+                memo_id: a,
+                decl: b,
+            },
+            12 => Instruction::ArrayExpression { elements: part },
+            13 => Instruction::CallExpression {
+                callee: a,
+                operands: part,
+            },
+            14 => Instruction::MethodCall {
+                property: a,
+                operands: part,
+            },
+            15 => Instruction::Other {
+                lvalues: row.part(4),
+                operands: part,
+            },
+            kind => return Err(UnknownKind(kind)),
+        })
     }
 }
 
@@ -286,7 +301,7 @@ impl Record for InstructionRow {
         InstructionRow {
             result: row.cell(1),
             span: row.optional(2),
-            instruction: instruction_of(row),
+            instruction: Instruction::try_from(row).unwrap(),
         }
     }
 
@@ -295,14 +310,16 @@ impl Record for InstructionRow {
     ghost sound_inside = { λ b row s. s.3 };
 }
 
-pub(crate) fn root_of(row: &Row<ManualMemoDependency>) -> ManualMemoDependencyRoot
-    ensures { result ≡ root_of row.now }
-{
-    let root = row.cell(1);
-    if row.flag(0) {
-        ManualMemoDependencyRoot::Global(root)
-    } else {
-        ManualMemoDependencyRoot::NamedLocal(root)
+impl<'r, 'a> From<&'r Row<'a, ManualMemoDependency>> for ManualMemoDependencyRoot {
+    ghost from_gives = { λ row root. root ≡ root_of row.now };
+
+    fn from(row: &'r Row<'a, ManualMemoDependency>) -> ManualMemoDependencyRoot {
+        let root = row.cell(1);
+        if row.flag(0) {
+            ManualMemoDependencyRoot::Global(root)
+        } else {
+            ManualMemoDependencyRoot::NamedLocal(root)
+        }
     }
 }
 
@@ -321,7 +338,7 @@ impl Record for ManualMemoDependency {
 
     fn decode(row: &Row<ManualMemoDependency>) -> ManualMemoDependency {
         ManualMemoDependency {
-            root: root_of(row),
+            root: ManualMemoDependencyRoot::from(row),
             path: row.part(2),
         }
     }

@@ -6,8 +6,8 @@ ghost use Rattle.unit.specs.Format.{columned, every_table};
 ghost use Rattle.unit.specs.Law.{AcceptedExactly, RefusedFirst};
 ghost use Rattle.unit.specs.Verdict.{terminal_flaw, operands_flaw, root_flaw, row_flaw, size_verdict, rows_verdict, first_of, verdict};
 
-use crate::flaws::{Flaw, check_filled, check_flag, check_kind};
-use crate::records::{Record, instruction_of, root_of, terminal_of};
+use crate::flaws::{Flaw, check_filled, check_flag};
+use crate::records::Record;
 use crate::refusal::Refusal;
 use crate::rows::{
     BasicBlock, Function, Identifier, Instruction, InstructionRow, ManualMemoDependency,
@@ -17,6 +17,7 @@ use crate::table::Table;
 use crate::unit_tables::Tables;
 use tables::row::Row;
 
+// What may be wrong with a row of this kind. A trait of the row's type and no method of `Tables`, so that the type says which columns there are.
 trait Columns: Record {
     fn check(tables: &Tables<&[u8]>, row: &Row<Self>) -> Result<(), Flaw>
         ensures { result_err result ≡ row_flaw (bytes_of tables.now) Self.Record.TABLE row.now };
@@ -71,8 +72,7 @@ impl Columns for BasicBlock {
     fn check(tables: &Tables<&[u8]>, row: &Row<BasicBlock>) -> Result<(), Flaw> {
         tables.check_part(Table::Phis, row.part(0))?;
         tables.check_part(Table::Instructions, row.part(2))?;
-        check_kind(0, 5, row.cell(4))?;
-        check_terminal(tables, row, terminal_of(row))?;
+        check_terminal(tables, row, Terminal::try_from(row)?)?;
         tables.check_part(Table::Places, row.part(8))
     }
 }
@@ -139,9 +139,9 @@ fn check_operands(
 
 impl Columns for InstructionRow {
     fn check(tables: &Tables<&[u8]>, row: &Row<InstructionRow>) -> Result<(), Flaw> {
-        check_kind(1, 15, row.cell(0))?;
+        let instruction = Instruction::try_from(row)?;
         tables.check_number(Table::Identifiers, row.cell(1))?;
-        check_operands(tables, row, instruction_of(row))
+        check_operands(tables, row, instruction)
     }
 }
 
@@ -160,7 +160,7 @@ fn check_root(tables: &Tables<&[u8]>, root: ManualMemoDependencyRoot) -> Result<
 impl Columns for ManualMemoDependency {
     fn check(tables: &Tables<&[u8]>, row: &Row<ManualMemoDependency>) -> Result<(), Flaw> {
         check_flag(row.cell(0))?;
-        check_root(tables, root_of(row))?;
+        check_root(tables, ManualMemoDependencyRoot::from(row))?;
         tables.check_part(Table::Steps, row.part(2))
     }
 }
@@ -172,55 +172,58 @@ impl Columns for Step {
     }
 }
 
-fn check_rows<R: Columns>(tables: &Tables<&[u8]>) -> Result<(), Refusal>
-    ensures { result_err result ≡ rows_verdict (bytes_of tables.now) R.Record.TABLE }
-{
-    let rows = tables.bytes(R::TABLE).chunks_exact(R::TABLE.width());
-    for (row, bytes) in rows.enumerate() {
-        R::check(tables, &Row::new(bytes)).map_err(|flaw| flaw.at(R::TABLE, row))?;
-    }
-    Ok(())
-}
-
-fn check_size(tables: &Tables<&[u8]>, table: Table) -> Result<(), Refusal>
-    ensures { result_err result ≡ size_verdict (bytes_of tables.now) table }
-{
-    let whole = tables.bytes(table).len() % table.width() == 0;
-    if whole && tables.rows(table) <= table.limit() {
+impl Tables<&[u8]> {
+    fn check_rows<R: Columns>(&self) -> Result<(), Refusal>
+        ensures { result_err result ≡ rows_verdict (bytes_of self.now) R.Record.TABLE }
+    {
+        let rows = self.bytes(R::TABLE).chunks_exact(R::TABLE.width());
+        for (row, bytes) in rows.enumerate() {
+            R::check(self, &Row::new(bytes)).map_err(|flaw| flaw.at(R::TABLE, row))?;
+        }
         Ok(())
-    } else {
-        Err(Refusal::Size { table })
     }
-}
 
-fn check_sizes(tables: &Tables<&[u8]>) -> Result<(), Refusal>
-    ensures { result_err result ≡ first_of (size_verdict (bytes_of tables.now)) every_table }
-{
-    for table in Table::ALL {
-        check_size(tables, table)?;
+    fn check_size(&self, table: Table) -> Result<(), Refusal>
+        ensures { result_err result ≡ size_verdict (bytes_of self.now) table }
+    {
+        let whole = self.bytes(table).len() % table.width() == 0;
+        if whole && self.rows(table) <= table.limit() {
+            Ok(())
+        } else {
+            Err(Refusal::Size { table })
+        }
     }
-    Ok(())
-}
 
-fn check_contents(tables: &Tables<&[u8]>) -> Result<(), Refusal>
-    ensures { result_err result ≡ first_of (rows_verdict (bytes_of tables.now)) columned }
-{
-    check_rows::<Word>(tables)?;
-    check_rows::<Identifier>(tables)?;
-    check_rows::<Place>(tables)?;
-    check_rows::<Function>(tables)?;
-    check_rows::<BasicBlock>(tables)?;
-    check_rows::<Phi>(tables)?;
-    check_rows::<InstructionRow>(tables)?;
-    check_rows::<ManualMemoDependency>(tables)?;
-    check_rows::<Step>(tables)
-}
+    fn check_sizes(&self) -> Result<(), Refusal>
+        ensures { result_err result ≡ first_of (size_verdict (bytes_of self.now)) every_table }
+    {
+        for table in Table::ALL {
+            self.check_size(table)?;
+        }
+        Ok(())
+    }
 
-pub(crate) fn check_tables(tables: &Tables<&[u8]>) -> Result<(), Refusal>
-    ensures answer { result_err result ≡ verdict (bytes_of tables.now) }
-    ensures exactly { AcceptedExactly (bytes_of tables.now) }
-    ensures first { RefusedFirst (bytes_of tables.now) }
-{
-    check_sizes(tables)?;
-    check_contents(tables)
+    // One below the other and in no loop: each call is at another type.
+    fn check_contents(&self) -> Result<(), Refusal>
+        ensures { result_err result ≡ first_of (rows_verdict (bytes_of self.now)) columned }
+    {
+        self.check_rows::<Word>()?;
+        self.check_rows::<Identifier>()?;
+        self.check_rows::<Place>()?;
+        self.check_rows::<Function>()?;
+        self.check_rows::<BasicBlock>()?;
+        self.check_rows::<Phi>()?;
+        self.check_rows::<InstructionRow>()?;
+        self.check_rows::<ManualMemoDependency>()?;
+        self.check_rows::<Step>()
+    }
+
+    pub(crate) fn check(&self) -> Result<(), Refusal>
+        ensures answer { result_err result ≡ verdict (bytes_of self.now) }
+        ensures exactly { AcceptedExactly (bytes_of self.now) }
+        ensures first { RefusedFirst (bytes_of self.now) }
+    {
+        self.check_sizes()?;
+        self.check_contents()
+    }
 }

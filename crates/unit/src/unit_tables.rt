@@ -4,8 +4,8 @@ ghost use Rattle.unit.specs.Bytes.{bytes_of, bytes_at, rows};
 
 use crate::table::Table;
 
-// No model: it is `Copy`, whatever `T` is, and its fields are its caller's to fill.
-#[derive(Clone, Copy, Drop)]
+// No model: what it holds depends on `T`, and its fields are its caller's to fill.
+#[derive(Clone, Copy, Default, Drop)]
 pub struct Tables<T> {
     pub word_bytes: T,
     pub words: T,

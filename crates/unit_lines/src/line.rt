@@ -43,6 +43,7 @@ impl UnitLine {
         }
     }
 
+    // Here and below each of the ten stands by its name, so that a field of the line meets its table by name and not by number.
     fn clear(&mut self)
         ensures { self.new ≡ no_bytes }
     {

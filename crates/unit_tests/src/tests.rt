@@ -9,6 +9,7 @@ use unit::table::Table;
 use unit::unit_tables::Tables;
 use unit_lines::error::LineError;
 use unit_lines::line::UnitLine;
+use unit_lines::outcome::Outcome;
 
 // `t = props.a`, and then a use of `t`.
 const WORKED: &[u8] =
@@ -113,5 +114,13 @@ fn an_unreadable_line_leaves_no_table(rt: HostRuntime) -> Result<(), Fail> {
     line.read(WORKED)?;
     assert_eq!(rt; line.read(b"61 00000000"), Err(LineError::Unreadable));
     assert!(rt; line.tables().word_bytes.is_empty());
+    Ok(())
+}
+
+#[test]
+fn a_line_has_its_outcome(rt: HostRuntime) -> Result<(), Fail> {
+    let mut line = UnitLine::new(rt.alloc());
+    assert_eq!(rt; line.outcome(WORKED)?, Outcome::Accepted);
+    assert_eq!(rt; line.outcome(b"61 00000000")?, Outcome::Unreadable);
     Ok(())
 }

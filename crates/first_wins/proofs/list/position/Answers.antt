@@ -1,16 +1,7 @@
-use Rattle.std.proofs.Common.{rules, ◌≡◌, true, false, sym, subst}
+use Rattle.std.proofs.Common.{rules, ◌≡◌, true, false}
 use Rattle.std.proofs.lemmas.Iterator.{YieldsList-from_slice, IsFirst-from_position}
-use Rattle.std.proofs.lemmas.Iterator.Adapters.{serves_from_places}
 use Rattle.first_wins.proofs.Known.{first_at}
 use Rattle.first_wins.proofs.list.position.Goals as goal
-
--- each entry that the search comes to is one of the list, so that the context admits it
-pub position-requires-clause-callable : goal.position-requires-clause-callable
-position-requires-clause-callable g c =
-    let admits = g.K.Keys.admits c.args.keys.now in
-    serves_from_places (YieldsList-from_slice c.args.list.now c.iter.ensures.rest)
-    (λ x q k. search rules)
-    (λ x k inside here. let held = subst admits (sym here) (c.requires.held k x.now inside) in search rules)
 
 -- where the chain ends is where the first entry with the key stands
 pub returns : goal.returns

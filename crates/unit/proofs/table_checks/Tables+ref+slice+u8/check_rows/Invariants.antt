@@ -5,7 +5,7 @@ use Rattle.unit.specs.Bytes.{bytes_of, bytes_at}
 use Rattle.unit.specs.Flaws.{at}
 use Rattle.unit.specs.Format.{width}
 use Rattle.unit.specs.Verdict.{row_flaw}
-use Rattle.unit.proofs.table_checks.check_rows.Given as goal
+use Rattle.unit.proofs.table_checks.Tables+ref+slice+u8.check_rows.Given as goal
 
 abbrev pub invariant-loop-row : goal.invariant-loop-row
 invariant-loop-row g l =
@@ -13,6 +13,6 @@ invariant-loop-row g l =
     record {
       can_next : (goal.iterator-loop-row g).can_next l.row-iterator;
       is_finite : (goal.iterator-loop-row g).is_finite l.row-iterator;
-      searching : Searching (at table) (row_flaw (bytes_of l.tables) table) (bytes_at (bytes_of l.tables) table) (width table)
+      searching : Searching (at table) (row_flaw (bytes_of l.self) table) (bytes_at (bytes_of l.self) table) (width table)
           (enumerate_count l.row-iterator) (chunks_exact_size (enumerate_source l.row-iterator)) (chunks_exact_rest (enumerate_source l.row-iterator));
     }
