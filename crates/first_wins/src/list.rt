@@ -1,5 +1,6 @@
 // The list: the first `len` entries of a slice, or all of them where it has fewer.
-// No struct holds the two: a model hides what the lent slice ends as, and no ghost field keeps what `admits` says, which may be any type.
+// No struct holds the two: a model hides what the lent slice ends as, no ghost field keeps what `admits` says, which may be any type, and with
+// neither each method had its clauses and one more. Functions, and no `final` methods of `Keys`: so the trait says what a key is and no more.
 ghost use Rattle.std.specs.Prelude.{◌≡◌, take, All, IfOk, MatchResult};
 ghost use Rattle.first_wins.specs.Entering.{Answered, written, used_after, Grown, AnsweredAll};
 ghost use Rattle.first_wins.specs.Keys.{FirstAt};

@@ -6,7 +6,8 @@ ghost use Rattle.first_wins.specs.Words.{Lies, word_of};
 
 use crate::keys::Keys;
 
-// Where a word begins, and how many bytes it has. A part of a table is the same two numbers, but this crate knows no table.
+// Where a word begins, and how many bytes it has. A part of a table is the same two numbers, but for these
+// this crate would stand on one that knows tables; so `word` slices by them too.
 #[derive(Clone, Copy, PartialEq, Eq, Debug)]
 pub struct Word {
     pub first: u32,

@@ -14,7 +14,7 @@ pub fn row_of(table: &[u8], width: usize, row: usize) -> &[u8]
     &table[at..at + width]
 }
 
-// The number in the four bytes from `at` on.
+// The number in the four bytes from `at` on. By their indices, so that their order stands in the line; `first_chunk` gives an Option to unwrap.
 fn number_at(bytes: &[u8], at: usize) -> u32
     requires { at + 4 ≤ length bytes.now }
     ensures { result ≡ number_at bytes.now at }

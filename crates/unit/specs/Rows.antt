@@ -1,5 +1,5 @@
--- What a row of each table says, by its cells. For any row at all there is something said: an unknown kind reads as the
--- last one and a flag over 1 as false. The check refuses both, so that nothing is read of them.
+-- What a row of each table says, by its cells. For any row at all there is something said: an unknown kind reads as Other
+-- and a flag over 1 as false. The check refuses both, so that nothing is read of them.
 use Rattle.std.specs.Prelude.{ℕ, ◌≤◌, ⊤, if◌then◌else◌, List, take, drop, ◌==◌}
 use Rattle.tables.specs.Cells.{cell, flag_at, optional}
 use Rattle.tables.specs.Parts.{part_of}

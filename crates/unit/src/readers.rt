@@ -31,7 +31,7 @@ impl<'a> CheckedUnit<'a> {
         R::decode(&Row::new(bytes))
     }
 
-    // A word, as its bytes among the word bytes.
+    // A word, as its bytes among the word bytes. The words of keys have their own, in a crate that knows no table.
     pub fn word(&self, row: u32) -> &'a [u8]
         requires { IsRow (held self.now) Table.Words row }
         ensures { result.now ≡ word_of (held self.now).word_bytes (row_at (held self.now) Table.Words row) }

@@ -32,7 +32,7 @@ impl Table {
         Table::Steps,
     ];
 
-    // The number is only told, in a refusal; nothing is decided by it.
+    // By a method and no `From`, since it names what the number is; it is only told, in a refusal.
     pub(crate) fn number(self) -> u8
         ensures { result ≡ number self }
     {

@@ -51,20 +51,18 @@ impl Columns for Function {
     }
 }
 
-fn check_terminal(
-    tables: &Tables<&[u8]>,
-    row: &Row<BasicBlock>,
-    terminal: Terminal,
-) -> Result<(), Flaw>
-    ensures { result_err result ≡ terminal_flaw (bytes_of tables.now) row.now terminal }
-{
-    match terminal {
-        Terminal::Branch { test, .. } => tables.check_number(Table::Places, test),
-        Terminal::Optional { .. } => check_flag(row.cell(5)),
-        Terminal::Other
-        | Terminal::LogicalOrTernary { .. }
-        | Terminal::Sequence { .. }
-        | Terminal::MaybeThrow { .. } => Ok(()),
+impl Tables<&[u8]> {
+    fn check_terminal(&self, row: &Row<BasicBlock>, terminal: Terminal) -> Result<(), Flaw>
+        ensures { result_err result ≡ terminal_flaw (bytes_of self.now) row.now terminal }
+    {
+        match terminal {
+            Terminal::Branch { test, .. } => self.check_number(Table::Places, test),
+            Terminal::Optional { .. } => check_flag(row.cell(5)),
+            Terminal::Other
+            | Terminal::LogicalOrTernary { .. }
+            | Terminal::Sequence { .. }
+            | Terminal::MaybeThrow { .. } => Ok(()),
+        }
     }
 }
 
@@ -72,7 +70,7 @@ impl Columns for BasicBlock {
     fn check(tables: &Tables<&[u8]>, row: &Row<BasicBlock>) -> Result<(), Flaw> {
         tables.check_part(Table::Phis, row.part(0))?;
         tables.check_part(Table::Instructions, row.part(2))?;
-        check_terminal(tables, row, Terminal::try_from(row)?)?;
+        tables.check_terminal(row, Terminal::try_from(row)?)?;
         tables.check_part(Table::Places, row.part(8))
     }
 }
@@ -84,55 +82,60 @@ impl Columns for Phi {
     }
 }
 
-fn check_operands(
-    tables: &Tables<&[u8]>,
-    row: &Row<InstructionRow>,
-    instruction: Instruction,
-) -> Result<(), Flaw>
-    ensures { result_err result ≡ operands_flaw (bytes_of tables.now) row.now instruction }
-{
-    match instruction {
-        Instruction::LoadGlobal { name, .. } => tables.check_number(Table::Words, name),
-        Instruction::LoadLocal { place }
-        | Instruction::DeclareLocal { place }
-        | Instruction::DeclareContext { place } => tables.check_number(Table::Places, place),
-        Instruction::StoreLocal { target, value, .. }
-        | Instruction::StoreContext { target, value, .. } => {
-            tables.check_number(Table::Places, target)?;
-            tables.check_number(Table::Places, value)?;
-            check_flag(row.cell(5))
-        }
-        Instruction::Destructure { value, pattern, .. } => {
-            tables.check_number(Table::Places, value)?;
-            check_flag(row.cell(5))?;
-            tables.check_part(Table::Places, pattern)
-        }
-        Instruction::PropertyLoad { object, property } => {
-            tables.check_number(Table::Places, object)?;
-            tables.check_optional(Table::Words, property)
-        }
-        Instruction::FunctionExpression { function } => tables.check_number(
-            Table::Functions,
-            function,
-        ),
-        Instruction::StartMemoize { declared, .. } => tables.check_part(Table::Declared, declared),
-        Instruction::FinishMemoize { decl, .. } => tables.check_number(Table::Places, decl),
-        Instruction::ArrayExpression { elements } => tables.check_part(Table::Places, elements),
-        Instruction::CallExpression {
-            callee: place,
-            operands,
-        }
-        | Instruction::MethodCall {
-            property: place,
-            operands,
-        } => {
-            tables.check_number(Table::Places, place)?;
-            tables.check_part(Table::Places, operands)?;
-            check_filled(operands)
-        }
-        Instruction::Other { lvalues, operands } => {
-            tables.check_part(Table::Places, lvalues)?;
-            tables.check_part(Table::Places, operands)
+impl Tables<&[u8]> {
+    fn check_operands(
+        &self,
+        row: &Row<InstructionRow>,
+        instruction: Instruction,
+    ) -> Result<(), Flaw>
+        ensures { result_err result ≡ operands_flaw (bytes_of self.now) row.now instruction }
+    {
+        match instruction {
+            Instruction::LoadGlobal { name, .. } => self.check_number(Table::Words, name),
+            Instruction::LoadLocal { place }
+            | Instruction::DeclareLocal { place }
+            | Instruction::DeclareContext { place } => self.check_number(Table::Places, place),
+            Instruction::StoreLocal { target, value, .. }
+            | Instruction::StoreContext { target, value, .. } => {
+                self.check_number(Table::Places, target)?;
+                self.check_number(Table::Places, value)?;
+                check_flag(row.cell(5))
+            }
+            Instruction::Destructure { value, pattern, .. } => {
+                self.check_number(Table::Places, value)?;
+                check_flag(row.cell(5))?;
+                self.check_part(Table::Places, pattern)
+            }
+            Instruction::PropertyLoad { object, property } => {
+                self.check_number(Table::Places, object)?;
+                self.check_optional(Table::Words, property)
+            }
+            Instruction::FunctionExpression { function } => self.check_number(
+                Table::Functions,
+                function,
+            ),
+            Instruction::StartMemoize { declared, .. } => self.check_part(
+                Table::Declared,
+                declared,
+            ),
+            Instruction::FinishMemoize { decl, .. } => self.check_number(Table::Places, decl),
+            Instruction::ArrayExpression { elements } => self.check_part(Table::Places, elements),
+            Instruction::CallExpression {
+                callee: place,
+                operands,
+            }
+            | Instruction::MethodCall {
+                property: place,
+                operands,
+            } => {
+                self.check_number(Table::Places, place)?;
+                self.check_part(Table::Places, operands)?;
+                check_filled(operands)
+            }
+            Instruction::Other { lvalues, operands } => {
+                self.check_part(Table::Places, lvalues)?;
+                self.check_part(Table::Places, operands)
+            }
         }
     }
 }
@@ -141,26 +144,28 @@ impl Columns for InstructionRow {
     fn check(tables: &Tables<&[u8]>, row: &Row<InstructionRow>) -> Result<(), Flaw> {
         let instruction = Instruction::try_from(row)?;
         tables.check_number(Table::Identifiers, row.cell(1))?;
-        check_operands(tables, row, instruction)
+        tables.check_operands(row, instruction)
     }
 }
 
-fn check_root(tables: &Tables<&[u8]>, root: ManualMemoDependencyRoot) -> Result<(), Flaw>
-    ensures { result_err result ≡ root_flaw (bytes_of tables.now) root }
-{
-    match root {
-        ManualMemoDependencyRoot::NamedLocal(identifier) => tables.check_number(
-            Table::Identifiers,
-            identifier,
-        ),
-        ManualMemoDependencyRoot::Global(name) => tables.check_number(Table::Words, name),
+impl Tables<&[u8]> {
+    fn check_root(&self, root: ManualMemoDependencyRoot) -> Result<(), Flaw>
+        ensures { result_err result ≡ root_flaw (bytes_of self.now) root }
+    {
+        match root {
+            ManualMemoDependencyRoot::NamedLocal(identifier) => self.check_number(
+                Table::Identifiers,
+                identifier,
+            ),
+            ManualMemoDependencyRoot::Global(name) => self.check_number(Table::Words, name),
+        }
     }
 }
 
 impl Columns for ManualMemoDependency {
     fn check(tables: &Tables<&[u8]>, row: &Row<ManualMemoDependency>) -> Result<(), Flaw> {
         check_flag(row.cell(0))?;
-        check_root(tables, ManualMemoDependencyRoot::from(row))?;
+        tables.check_root(ManualMemoDependencyRoot::from(row))?;
         tables.check_part(Table::Steps, row.part(2))
     }
 }

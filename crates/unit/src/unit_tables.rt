@@ -4,7 +4,7 @@ ghost use Rattle.unit.specs.Bytes.{bytes_of, bytes_at, rows};
 
 use crate::table::Table;
 
-// No model: what it holds depends on `T`, and its fields are its caller's to fill.
+// No model: it would hide the ten fields, which a caller fills by name.
 #[derive(Clone, Copy, Default, Drop)]
 pub struct Tables<T> {
     pub word_bytes: T,

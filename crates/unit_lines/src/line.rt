@@ -24,6 +24,8 @@ impl Model for UnitLine {
 }
 
 impl UnitLine {
+    // Here and below each of the ten stands by its name, so that a field of the line meets its table by name and not by number; one method for
+    // all ten would have the same list.
     pub fn new(heap: Global) -> UnitLine
         ensures { result ≡ no_bytes }
     {
@@ -43,7 +45,6 @@ impl UnitLine {
         }
     }
 
-    // Here and below each of the ten stands by its name, so that a field of the line meets its table by name and not by number.
     fn clear(&mut self)
         ensures { self.new ≡ no_bytes }
     {

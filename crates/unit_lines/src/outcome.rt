@@ -51,6 +51,7 @@ impl UnitLine {
         match self.read(line) {
             Ok(()) => Ok(self.judge()),
             Err(LineError::Unreadable) => Ok(Outcome::Unreadable),
+            // An `AllocError` has one value, so that the error of the line does not carry it.
             Err(LineError::Memory) => Err(AllocError),
         }
     }
