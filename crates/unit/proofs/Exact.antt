@@ -109,7 +109,7 @@ module _ (b : Bytes) where
   row_passes Phis row = passes_then _ _ (number Identifiers (cell row 0)) (part Places (part_of row 1))
   row_passes Instructions row =
       passes_as (passes_then _ _ (kind 1 15 (cell row 0)) (passes_then _ _ (number Identifiers (cell row 1)) (operands_pass row (instruction_of row))))
-      (λ h. (h.0.0, h.0.1, h.1.1.0, (h.1.0, h.1.1.1))) (λ h. ((h.0, h.1), (h.3.0, (h.2, h.3.1))))
+      (λ h. (h.0, h.1.1.0, (h.1.0, h.1.1.1))) (λ h. (h.0, (h.2.0, (h.1, h.2.1))))
   row_passes Declared row = passes_then _ _ (flag (cell row 0)) (passes_then _ _ (root (root_of row)) (part Steps (part_of row 2)))
   row_passes Steps row = passes_then _ _ (number Words (cell row 0)) (flag (cell row 1))
 
@@ -198,6 +198,6 @@ has_kind b Places row s = tt
 has_kind b Functions row s = tt
 has_kind b Blocks row s = s.0
 has_kind b Phis row s = tt
-has_kind b Instructions row s = (s.0, s.1)
+has_kind b Instructions row s = s.0
 has_kind b Declared row s = tt
 has_kind b Steps row s = tt

@@ -5,7 +5,7 @@ use Rattle.tables.specs.Cells.{cell}
 use Rattle.unit.specs.Bytes.{Bytes, bytes_at, rows, row_at}
 use Rattle.unit.specs.Format.{width, limit}
 use Rattle.unit.specs.Inside.{WordInside, IdentifierInside, PlaceInside, FunctionInside, BlockInside, PhiInside, InstructionInside, DeclaredInside, StepInside}
-use Rattle.unit.specs.Rows.{word_row_of, identifier_of, place_of, function_of, terminal_of, block_of, phi_of, instruction_of, instruction_row_of, declared_of, step_of}
+use Rattle.unit.specs.Rows.{HasKind, word_row_of, identifier_of, place_of, function_of, terminal_of, block_of, phi_of, instruction_of, instruction_row_of, declared_of, step_of}
 use Rattle.unit.specs.declared.rows.Terminal.{Terminal}
 use Rattle.unit.specs.declared.rows.Terminal.TheVariants as terminal
 use Rattle.unit.specs.declared.rows.Instruction.{Instruction}
@@ -49,10 +49,10 @@ RowSound b Words row = WordInside b (word_row_of row)
 RowSound b Identifiers row = IsFlag (cell row 0) × IsFlag (cell row 1) × IdentifierInside b (identifier_of row)
 RowSound b Places row = PlaceInside b (place_of row) × IsFlag (cell row 2)
 RowSound b Functions row = FunctionInside b (function_of row)
-RowSound b Blocks row = (cell row 4 ≤ 5) × OptionalFlag (terminal_of row) (cell row 5) × BlockInside b (block_of row)
+RowSound b Blocks row = HasKind Blocks row × OptionalFlag (terminal_of row) (cell row 5) × BlockInside b (block_of row)
 RowSound b Phis row = PhiInside b (phi_of row)
 RowSound b Instructions row =
-    (1 ≤ cell row 0) × (cell row 0 ≤ 15) × ReassignFlag (instruction_of row) (cell row 5) × InstructionInside b (instruction_row_of row)
+    HasKind Instructions row × ReassignFlag (instruction_of row) (cell row 5) × InstructionInside b (instruction_row_of row)
 RowSound b Declared row = IsFlag (cell row 0) × DeclaredInside b (declared_of row)
 RowSound b Steps row = StepInside b (step_of row) × IsFlag (cell row 1)
 

@@ -307,7 +307,7 @@ impl Record for InstructionRow {
 
     ghost wide = { refl };
 
-    ghost sound_inside = { λ b row s. s.3 };
+    ghost sound_inside = { λ b row s. s.2 };
 }
 
 impl<'r, 'a> From<&'r Row<'a, ManualMemoDependency>> for ManualMemoDependencyRoot {
