@@ -1,11 +1,14 @@
-use Rattle.std.proofs.Common.{◌≡◌, None, Some, Ok, Err, Result, refl, rules}
+use Rattle.std.proofs.Common.{◌≡◌, None, Some, Ok, Err, Result, sym, refl, rules}
 use Rattle.std.specs.Result.{result_err}
 use Rattle.std.proofs.lemmas.Result.{err_from_is_err_and}
-use Rattle.tables.proofs.Rows.{search_finds, search_goes_on}
+use Rattle.tables.proofs.Rows.{search_begins, search_ends, search_finds, search_goes_on}
 use Rattle.unit.specs.Bytes.{bytes_of}
 use Rattle.unit.specs.Verdict.{row_flaw, rows_verdict}
 use Rattle.unit.specs.declared.flaws.Flaw.{Flaw}
 use Rattle.unit.proofs.table_checks.Tables+ref+slice+u8.check_rows.Goals as goal
+
+pub loop-row-init : goal.loop-row-init
+loop-row-init g c = search (rules, search_begins)
 
 pub loop-row-preserved : goal.loop-row-preserved
 loop-row-preserved g c =
@@ -26,3 +29,6 @@ returns-in_err-map_err g c = go c.check.result refl
         let p = err_from_is_err_and c.from_residual.result c.from_residual.ensures.1 in
         let told = err_from_is_err_and c.map_err.result (rw is at c.map_err.ensures.cases) in
         rw (p.1, p.2, found) (search rules)
+
+pub returns : goal.returns
+returns g c = sym (search_ends _ _ _ _ _ _ _ c.loop-row.invariant.searching c.in-None.ensures.steps.0.1.0)
